@@ -1,0 +1,4 @@
+pub mod Sums
+pub mod Integers
+pub mod LargestRemainder
+pub mod Demand3

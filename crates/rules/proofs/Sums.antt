@@ -1,0 +1,57 @@
+-- Laws of `sum`: each by one induction on how many figures are added.
+use mathlib.Core.Path.{_≡_, refl, sym, _∙_, ap}
+use Prim.Native.Nat.{ℕ, zero, suc, _+_, _*_, _≤_, _<_, zero-le}
+use mathlib.Core.Logic.{⊎-elim}
+use native.Mathlib.Nat.{le-refl, zero-mul, add-suc, add-zero, eq-or-lt-of-le, le-of-suc-le-suc}
+use native.Mathlib.Omega.{arith}
+use Rattle.rules.specs.Words.{sum}
+
+-- only the figures below n count
+pub sum-cong : (n : ℕ) {f g : ℕ → ℕ} → ((i : ℕ) → i < n → f i ≡ g i) → sum n f ≡ sum n g
+unfolding sum
+sum-cong zero h = refl
+sum-cong (suc n) {f} {g} h = omega (arith, sum-cong n {f = f} {g = g} (λ i b. h i (omega arith)), h n (omega arith))
+
+pub sum-add : (n : ℕ) (f g : ℕ → ℕ) → sum n (λ i. f i + g i) ≡ sum n f + sum n g
+unfolding sum
+sum-add zero f g = refl
+sum-add (suc n) f g = omega (arith, sum-add n f g)
+
+pub sum-scale : (n : ℕ) (f : ℕ → ℕ) (c : ℕ) → sum n (λ i. f i * c) ≡ sum n f * c
+unfolding sum
+sum-scale zero f c = sym (zero-mul c)
+sum-scale (suc n) f c = omega (arith, sum-scale n f c)
+
+pub sum-le : (n : ℕ) {f g : ℕ → ℕ} → ((i : ℕ) → i < n → f i ≤ g i) → sum n f ≤ sum n g
+unfolding sum
+sum-le zero h = le-refl 0
+sum-le (suc n) {f} {g} h = omega (arith, sum-le n {f = f} {g = g} (λ i b. h i (omega arith)), h n (omega arith))
+
+pub sum-zero : (n : ℕ) {f : ℕ → ℕ} → ((i : ℕ) → i < n → f i ≡ 0) → sum n f ≡ 0
+unfolding sum
+sum-zero zero h = refl
+sum-zero (suc n) {f} h = omega (arith, sum-zero n {f = f} (λ i b. h i (omega arith)), h n (omega arith))
+
+-- and where one figure is less, the sum is less
+pub sum-lt : (n : ℕ) {f g : ℕ → ℕ} → ((i : ℕ) → i < n → f i ≤ g i) → {k : ℕ} → k < n → f k < g k → sum n f < sum n g
+unfolding sum
+sum-lt zero h b l = omega arith
+sum-lt (suc n) {f} {g} h {k} b l =
+    ⊎-elim
+    (λ (e : k ≡ n).
+    let l′ : f n < g n = rw e at l in
+    omega (arith, sum-le n {f = f} {g = g} (λ i b. h i (omega arith))))
+    (λ (b′ : k < n). omega (arith, sum-lt n {f = f} {g = g} (λ i b. h i (omega arith)) b′ l, h n (omega arith)))
+    (eq-or-lt-of-le (le-of-suc-le-suc b))
+
+-- a figure is at most the sum that it is part of
+pub sum-member : (n : ℕ) (f : ℕ → ℕ) {i : ℕ} → i < n → f i ≤ sum n f
+unfolding sum
+sum-member zero f b = omega arith
+sum-member (suc n) f {i} b = ⊎-elim (λ (e : i ≡ n). rw e (omega arith)) (λ (l : i < n). omega (arith, sum-member n f l)) (eq-or-lt-of-le (le-of-suc-le-suc b))
+
+-- a sum over a + b figures is that over the first a, and that over the b after them
+pub sum-split : (a b : ℕ) (f : ℕ → ℕ) → sum (a + b) f ≡ sum a f + sum b (λ k. f (a + k))
+unfolding sum
+sum-split a zero f = rw add-zero (omega arith)
+sum-split a (suc b) f = rw add-suc (omega (arith, sum-split a b f))

@@ -1,0 +1,122 @@
+-- A month that has been read (01): its figures hour by hour, its sums, and the order of the refusals after the file is read.
+use mathlib.Core.Bool.{Bool, cond, _&&_, _||_}
+use mathlib.Core.List.{List, [], _∷_}
+use Prim.Native.Nat.{ℕ, suc, _+_, _-_}
+use lib.Dec.{eqb, leb, ltb}
+use lib.IntN.{ℤ, pos}
+use lib.ListN.{length, getD}
+use Rattle.rules.specs.Distributed.{distributedFigure}
+use Rattle.rules.specs.Flows.{Flows, W, residualWh, curveNumber, appliedSeries, judged, verdictOf}
+use Rattle.rules.specs.Limits.{greatestW, greatestCurveNumber, greatestPeriodised, missing, estimated}
+use Rattle.rules.specs.MonthFile.{MonthFile, H, P}
+use Rattle.rules.specs.Periodised.{periodisedFigure}
+use Rattle.rules.specs.Reconciliation.{gridLoss, lossOf, differenceOf, amountMillionths, invoiceOre}
+use Rattle.rules.specs.Record.{Party, Reading}
+use Rattle.rules.specs.Refusals.{wOutOfRange, curveTooLarge, nothingToFollow, periodisedTooLarge, Verdict, unless, first, inTurn}
+use Rattle.rules.specs.Words.{sum, sumℤ, count, within}
+
+-- What stands at a place of a list. Past a list's end nothing is asked; what is written for it there is an empty record.
+unfoldable pub partyAt : MonthFile → ℕ → Party
+partyAt m i = getD (m .parties) i (record { gln = []; share = 0 })
+
+unfoldable pub flowsAt : List Flows → ℕ → Flows
+flowsAt series t = getD series t (record { status = missing; net = pos 0; production = 0; hourly = 0; flex = 0 })
+
+unfoldable pub readingAt : MonthFile → ℕ → Reading
+readingAt m j = getD (m .readings) j (record { party = 0; a = 0; b = 0; e = 0 })
+
+unfoldable pub priceAt : MonthFile → ℕ → ℤ
+priceAt m t = getD (m .prices) t (pos 0)
+
+unfoldable pub shareOf : MonthFile → ℕ → ℕ
+shareOf m i = partyAt m i .share
+
+unfoldable pub monthW : MonthFile → ℕ
+monthW m = W (P m) (shareOf m)
+
+unfoldable pub fixedWh : MonthFile → ℕ → ℕ
+fixedWh m t = residualWh (flowsAt (m .fixed) t)
+
+-- "The applied series is the refixed series if the file has one, otherwise the fixed series."
+unfoldable pub appliedFlows : MonthFile → ℕ → Flows
+appliedFlows m t = flowsAt (appliedSeries (m .fixed) (m .refixed)) t
+
+unfoldable pub appliedWh : MonthFile → ℕ → ℕ
+appliedWh m t = residualWh (appliedFlows m t)
+
+-- "The curve always comes from the fixed one."
+unfoldable pub curve : MonthFile → ℕ → ℕ
+curve m t = curveNumber (fixedWh m t) (monthW m)
+
+unfoldable pub distributed : MonthFile → ℕ → ℕ → ℤ
+distributed m t i = distributedFigure (P m) (shareOf m) (appliedWh m) t i
+
+-- "A reading is E Wh over the hours from a to before b. Its weights are the part of the month's curve from its first hour to its last."
+unfoldable pub weightOf : MonthFile → Reading → ℕ → ℕ
+weightOf m r k = curve m (r .a + k)
+
+-- "S is their sum."
+unfoldable pub S : MonthFile → Reading → ℕ
+S m r = sum (r .b - r .a) (weightOf m r)
+
+-- the reading's figure in hour t of the month: none outside its hours
+unfoldable pub readingFigure : MonthFile → Reading → ℕ → ℕ
+readingFigure m r t =
+    cond (leb (r .a) t && ltb t (r .b)) (periodisedFigure (r .e) (r .b - r .a) (weightOf m r) (t - r .a)) 0
+
+-- a party's periodised consumption in hour t: that of its readings
+unfoldable pub periodised : MonthFile → ℕ → ℕ → ℕ
+periodised m t i =
+    sum (length (m .readings)) (λ j. cond (eqb (readingAt m j .party) i) (readingFigure m (readingAt m j) t) 0)
+
+-- "All periodised consumption in an hour"
+unfoldable pub allPeriodised : MonthFile → ℕ → ℕ
+allPeriodised m t = sum (P m) (periodised m t)
+
+unfoldable pub loss : MonthFile → ℕ → ℤ
+loss m t = gridLoss (appliedWh m t) (P m) (periodised m t)
+
+unfoldable pub difference : MonthFile → ℕ → ℕ → ℤ
+difference m t i = differenceOf (m .heading .carrier) (loss m t) (periodised m t) (distributed m t) i
+
+unfoldable pub amount : MonthFile → ℕ → ℕ → ℤ
+amount m t i = amountMillionths (difference m t i) (priceAt m t)
+
+-- The month sums of a party, in Wh and in millionths of an øre. "Loss is 0 for all but the carrier." "the month's amount is the exact sum"
+unfoldable pub monthDistributed : MonthFile → ℕ → ℤ
+monthDistributed m i = sumℤ (H m) (λ t. distributed m t i)
+
+unfoldable pub monthPeriodised : MonthFile → ℕ → ℕ
+monthPeriodised m i = sum (H m) (λ t. periodised m t i)
+
+unfoldable pub monthLoss : MonthFile → ℕ → ℤ
+monthLoss m i = sumℤ (H m) (λ t. lossOf (m .heading .carrier) (loss m t) i)
+
+unfoldable pub monthDifference : MonthFile → ℕ → ℤ
+monthDifference m i = sumℤ (H m) (λ t. difference m t i)
+
+unfoldable pub monthAmount : MonthFile → ℕ → ℤ
+monthAmount m i = sumℤ (H m) (λ t. amount m t i)
+
+unfoldable pub invoice : MonthFile → ℕ → ℤ
+invoice m i = invoiceOre (monthAmount m i)
+
+-- "the number of applied hours with status 2"
+unfoldable pub estimatedHours : MonthFile → ℕ
+estimatedHours m = count (H m) (λ t. eqb (appliedFlows m t .status) estimated)
+
+-- THE ORDER OF REFUSALS AFTER THE FILE IS READ. "Then 6; then the fixed hours in order, each 7, 8, 9; the refixed hours likewise;
+-- 10 by hour; 13 by reading; 14 by hour".
+unfoldable pub monthChecks : MonthFile → List Verdict
+monthChecks m =
+    unless (within 1 greatestW (monthW m)) wOutOfRange 0
+    ∷ inTurn (H m) (λ t. verdictOf (judged (flowsAt (m .fixed) t)) t)
+    ∷ inTurn (length (m .refixed)) (λ t. verdictOf (judged (flowsAt (m .refixed) t)) t)
+    ∷ inTurn (H m) (λ t. unless (leb (curve m t) greatestCurveNumber) curveTooLarge t)
+    ∷ inTurn (length (m .readings))
+    (λ j. unless (eqb (readingAt m j .e) 0 || leb 1 (S m (readingAt m j))) nothingToFollow j)
+    ∷ inTurn (H m) (λ t. unless (leb (allPeriodised m t) greatestPeriodised) periodisedTooLarge t)
+    ∷ []
+
+unfoldable pub monthVerdict : MonthFile → Verdict
+monthVerdict m = first (monthChecks m)

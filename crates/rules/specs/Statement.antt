@@ -1,0 +1,97 @@
+-- "The statement program" (01): its text, as bytes, from the bytes of the month file.
+use mathlib.Core.Bool.{cond}
+use mathlib.Core.List.{List, [], _∷_, _++_}
+use Prim.Native.Nat.{ℕ, zero, suc, _+_, _/_, _%_}
+use lib.Dec.{ltb}
+use lib.IntN.{ℤ, pos, negsuc}
+use Rattle.rules.specs.Month.{partyAt, monthDistributed, monthPeriodised, monthLoss, monthDifference, invoice, estimatedHours, monthVerdict}
+use Rattle.rules.specs.MonthFile.{MonthFile, H, P, readMonth}
+use Rattle.rules.specs.Refusals.{Refusal, numberOf, Verdict, accepted, refused, Answer, given, refusal}
+use Rattle.rules.specs.Words.{sum, sumℤ, figures, ascii}
+
+-- "Numbers are printed without leading zeros, most significant digit first": the number divided by ten, then the last digit.
+-- (The first number only bounds how many digits there are; the number itself is enough.)
+unfoldable pub digitsIn : ℕ → ℕ → List ℕ
+digitsIn zero n = []
+digitsIn (suc most) n =
+    let tensThenLast = digitsIn most (n / 10) ++ ((48 + n % 10) ∷ []) in
+    cond (ltb n 10) ((48 + n) ∷ []) tensThenLast
+
+unfoldable pub decimal : ℕ → List ℕ
+decimal n = digitsIn (suc n) n
+
+-- "a minus before negatives"
+unfoldable pub signedDecimal : ℤ → List ℕ
+signedDecimal (pos n) = decimal n
+signedDecimal (negsuc n) = ascii "-" ++ decimal (suc n)
+
+-- "area (3 digits), month (2) and GLN (13) keep theirs": n with so many digits
+unfoldable pub digitsOfWidth : ℕ → ℕ → List ℕ
+digitsOfWidth zero n = []
+digitsOfWidth (suc width) n = digitsOfWidth width (n / 10) ++ ((48 + n % 10) ∷ [])
+
+-- "Every line ends with one newline byte."
+unfoldable pub newline : List ℕ
+newline = 10 ∷ []
+
+-- "On refusal it prints one line, `refused N at P`."
+unfoldable pub refusalLine : Refusal → ℕ → List ℕ
+refusalLine r place = ascii "refused " ++ decimal (numberOf r) ++ ascii " at " ++ decimal place ++ newline
+
+-- "a heading line with area (three digits), year-month, H, P and the number of applied hours with status 2"
+unfoldable pub headingLine : MonthFile → List ℕ
+headingLine m =
+    ascii "area " ++ digitsOfWidth 3 (m .heading .area) ++ ascii " " ++ decimal (m .heading .year) ++ ascii "-"
+    ++ digitsOfWidth 2 (m .heading .month)
+    ++ ascii " hours "
+    ++ decimal (H m)
+    ++ ascii " parties "
+    ++ decimal (P m)
+    ++ ascii " estimated "
+    ++ decimal (estimatedHours m)
+    ++ newline
+
+-- a line of five columns: "distributed, periodised, loss, difference (month sums in Wh) and invoice øre"
+unfoldable pub columnsLine : List ℕ → ℤ → ℕ → ℤ → ℤ → ℤ → List ℕ
+columnsLine name distributed periodised loss difference ore =
+    name ++ ascii " " ++ signedDecimal distributed ++ ascii " " ++ decimal periodised ++ ascii " " ++ signedDecimal loss
+    ++ ascii " "
+    ++ signedDecimal difference
+    ++ ascii " "
+    ++ signedDecimal ore
+    ++ newline
+
+-- "one line per party in order with GLN, .."
+unfoldable pub partyLine : MonthFile → ℕ → List ℕ
+partyLine m i =
+    columnsLine (partyAt m i .gln) (monthDistributed m i) (monthPeriodised m i) (monthLoss m i) (monthDifference m i)
+    (invoice m i)
+
+-- "a line `total` with the column sums"
+unfoldable pub totalLine : MonthFile → List ℕ
+totalLine m =
+    columnsLine (ascii "total") (sumℤ (P m) (monthDistributed m)) (sum (P m) (monthPeriodised m))
+    (sumℤ (P m) (monthLoss m))
+    (sumℤ (P m) (monthDifference m))
+    (sumℤ (P m) (invoice m))
+
+-- lines one after the other
+unfoldable pub joined : List (List ℕ) → List ℕ
+joined [] = []
+joined (line ∷ lines) = line ++ joined lines
+
+unfoldable pub statementLines : MonthFile → List ℕ
+statementLines m = headingLine m ++ joined (figures (P m) (partyLine m)) ++ totalLine m
+
+-- the statement of a month that was read: its lines, or its refusal
+unfoldable pub judgedStatement : MonthFile → Verdict → List ℕ
+judgedStatement m accepted = statementLines m
+judgedStatement m (refused r place) = refusalLine r place
+
+unfoldable pub answeredStatement : Answer MonthFile → List ℕ
+answeredStatement (given m) = judgedStatement m (monthVerdict m)
+answeredStatement (refusal r place) = refusalLine r place
+
+-- THE STATEMENT OF A FILE: "Reads one month file from standard input. .. On refusal it prints one line .. Else: .."
+unfoldable pub statement : List ℕ → List ℕ
+statement bytes = answeredStatement (readMonth bytes)
