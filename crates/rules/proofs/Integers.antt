@@ -69,6 +69,12 @@ minus-at-most a b k h = rw (minus-is a b) (go (ltb a b) refl)
     go true e = rw e (record { le = tt })
     go false e = let more : b ≤ a = ltb-false a b e in rw e (record { le = le→leb (a - b) k (omega arith) })
 
+-- sizes
+pub size-of-opposite : (z : ℤ) → natAbs (negℤ z) ≡ natAbs z
+size-of-opposite (pos zero) = refl
+size-of-opposite (pos (suc n)) = refl
+size-of-opposite (negsuc n) = refl
+
 -- The product over a sum.
 times-suc : (m : ℤ) (n : ℕ) → m *ℤ pos (suc n) ≡ m *ℤ pos n +ℤ m
 times-suc m n = *ℤ-comm m (pos (suc n)) ∙ sucℤ-*ℤ (pos n) m ∙ ap (λ (x : ℤ). x +ℤ m) (*ℤ-comm (pos n) m)

@@ -1,4 +1,9 @@
+pub mod Refusals
 pub mod Sums
 pub mod Integers
 pub mod LargestRemainder
 pub mod Demand3
+pub mod Periodised
+pub mod Reconciliation
+pub mod WorkedCases
+pub mod WorkedMonths

@@ -4,6 +4,7 @@
 pub mod Words
 pub mod Limits
 pub mod Refusals
+pub mod Accepted
 pub mod Flows
 pub mod Distributed
 pub mod Demands
@@ -15,3 +16,5 @@ pub mod MonthFile
 pub mod Month
 pub mod Services
 pub mod Statement
+pub mod WorkedCases
+pub mod WorkedMonths

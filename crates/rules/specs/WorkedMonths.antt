@@ -1,0 +1,155 @@
+-- Whole month files and the statement that the rules give for each, from the file's bytes to the printed text: input S1 of 01 with its five lines, a
+-- small month whose figures can be followed by hand, and each refusal 1 to 15 once, two faults at a time where an order shows. Proved in
+-- proofs/WorkedMonths, by computing the definitions.
+use mathlib.Core.List.{List, [], _∷_, _++_}
+use mathlib.Core.Path.{_≡_}
+use Prim.Native.Nat.{ℕ}
+use Prim.Native.String.{String}
+use lib.IntN.{ℤ, pos, negsuc}
+use lib.ListN.{take}
+use Rattle.rules.specs.Flows.{Flows}
+use Rattle.rules.specs.Limits.{missing, measured, estimated}
+use Rattle.rules.specs.Record.{Record, heading, party, fixedHour, reading, price, refixedHour, end, recordBytes}
+use Rattle.rules.specs.Statement.{statement}
+use Rattle.rules.specs.Words.{ascii}
+
+-- the file of these records
+unfoldable pub fileOf : List Record → List ℕ
+fileOf [] = []
+fileOf (r ∷ records) = recordBytes r ++ fileOf records
+
+-- an hour whose only flow is its net supply
+unfoldable pub supply : ℕ → ℤ → Flows
+supply status net = record { status = status; net = net; production = 0; hourly = 0; flex = 0 }
+
+unfoldable pub partyOf : String → ℕ → Record
+partyOf gln share = party (record { gln = ascii gln; share = share })
+
+unfoldable pub readingOf : ℕ → ℕ → ℕ → ℕ → Record
+readingOf who a b e = reading (record { party = who; a = a; b = b; e = e })
+
+unfoldable pub headingOf : ℕ → ℕ → ℕ → ℕ → ℕ → ℕ → Record
+headingOf area year month hours parties carrier =
+    heading (record { area = area; year = year; month = month; hours = hours; parties = parties; carrier = carrier })
+
+-- "Input S1, the example of H2 6.3"
+unfoldable pub S1 : List ℕ
+S1 =
+    fileOf
+    (headingOf 7 2016 4 3 3 2
+    ∷ partyOf "0000000000017" 1500000
+    ∷ partyOf "0000000000024" 6000000
+    ∷ partyOf "0000000000031" 2500000
+    ∷ fixedHour 0 (supply measured (pos 40000000))
+    ∷ fixedHour 1 (supply measured (pos 50000000))
+    ∷ fixedHour 2 (supply measured (pos 40000000))
+    ∷ refixedHour 0 (supply measured (pos 39000000))
+    ∷ refixedHour 1 (supply measured (pos 48000000))
+    ∷ refixedHour 2 (supply measured (pos 39000000))
+    ∷ price 0 (pos 29000)
+    ∷ price 1 (pos 33000)
+    ∷ price 2 (pos 30000)
+    ∷ readingOf 0 0 1 7800000
+    ∷ readingOf 0 1 2 9800000
+    ∷ readingOf 0 2 3 10000000
+    ∷ readingOf 1 0 1 20100000
+    ∷ readingOf 1 1 2 25100000
+    ∷ readingOf 1 2 3 17900000
+    ∷ readingOf 2 0 1 10000000
+    ∷ readingOf 2 1 2 12500000
+    ∷ readingOf 2 2 3 10000000
+    ∷ end 22
+    ∷ [])
+
+-- A month of two hours and two parties of equal shares; the second party's one reading runs over both hours. Its parts can be put in faulty.
+unfoldable pub begin : ℕ → ℕ → List Record
+begin share0 share1 =
+    headingOf 1 2020 1 2 2 0 ∷ partyOf "0000000000017" share0 ∷ partyOf "0000000000024" share1 ∷ []
+
+unfoldable pub fixedHours : Flows → Flows → List Record
+fixedHours f0 f1 = fixedHour 0 f0 ∷ fixedHour 1 f1 ∷ []
+
+unfoldable pub refixedHours : Flows → Flows → List Record
+refixedHours f0 f1 = refixedHour 0 f0 ∷ refixedHour 1 f1 ∷ []
+
+-- 0 and 1,000,000 øre per MWh: an invoice is then the difference of hour 1, in Wh
+unfoldable pub prices : List Record
+prices = price 0 (pos 0) ∷ price 1 (pos 1000000) ∷ []
+
+unfoldable pub small : Flows → Flows → Flows → Flows → ℕ → ℕ → ℕ → List ℕ
+small f0 f1 r0 r1 share0 share1 e =
+    fileOf (begin share0 share1 ++ fixedHours f0 f1 ++ refixedHours r0 r1 ++ prices ++ (readingOf 1 0 2 e ∷ end 10 ∷ []))
+
+-- the same without a refixed series, and with the last records given
+unfoldable pub closing : List Record → List ℕ
+closing records =
+    fileOf (begin 1 1 ++ fixedHours (supply measured (pos 1)) (supply measured (pos 3)) ++ prices ++ records)
+
+-- the first records given, and nothing more
+unfoldable pub opening : List Record → List ℕ
+opening records = fileOf records
+
+pub record WorkedMonths : Type 0 where
+  -- "The whole output:"
+  pub S1-lines :
+      statement S1
+      ≡ ascii
+      "area 007 2016-04 hours 3 parties 3 estimated 0\n0000000000017 18900000 27600000 0 8700000 266850\n0000000000024 75600000 63100000 0 -12500000 -382800\n0000000000031 31500000 32500000 2800000 3800000 115950\ntotal 126000000 123200000 2800000 0 0\n"
+  -- "The curve always comes from the fixed one": 1 and 3, so E = 4 falls 1 and 3 (by the refixed 2 and 2 it would fall 2 and 2). The second party has 1
+  -- and 1 distributed, so its differences are 0 and 2. Applied hours with status 2: one, the refixed hour 1.
+  pub curve-from-fixed :
+      statement (small (supply estimated (pos 1)) (supply measured (pos 3)) (supply measured (pos 2)) (supply estimated (pos 2)) 1 1 4)
+      ≡ ascii
+      "area 001 2020-01 hours 2 parties 2 estimated 1\n0000000000017 2 0 0 -2 -2\n0000000000024 2 4 0 2 2\ntotal 4 4 0 0 0\n"
+  -- without refixed hours the fixed ones are applied; two readings of one party add up; the loss of either sign is the carrier's
+  pub fixed-applied :
+      statement (closing (readingOf 1 0 2 4 ∷ readingOf 1 1 2 2 ∷ end 9 ∷ []))
+      ≡ ascii
+      "area 001 2020-01 hours 2 parties 2 estimated 0\n0000000000017 2 0 -2 -4 -3\n0000000000024 2 6 0 4 3\ntotal 4 6 -2 0 0\n"
+  pub refused-1-empty : statement [] ≡ ascii "refused 1 at 0\n"
+  pub refused-1-no-end : statement (closing (readingOf 1 0 2 4 ∷ [])) ≡ ascii "refused 1 at 8\n"
+  pub refused-1-cut : statement (take 15 (opening (begin 1 1))) ≡ ascii "refused 1 at 1\n"
+  pub refused-1-after-the-end : statement (closing (end 7 ∷ end 7 ∷ [])) ≡ ascii "refused 1 at 8\n"
+  pub refused-2 : statement (closing [] ++ (8 ∷ [])) ≡ ascii "refused 2 at 7\n"
+  -- the only byte is 03: cut short (1) before out of order (3)
+  pub cut-before-order : statement (3 ∷ []) ≡ ascii "refused 1 at 0\n"
+  pub refused-3-kind : statement (closing (partyOf "0000000000031" 1 ∷ [])) ≡ ascii "refused 3 at 7\n"
+  -- an hour field out of order, with a status outside its range: 3 before 4
+  pub order-before-range : statement (opening (begin 1 1 ++ (fixedHour 1 (supply 3 (pos 0)) ∷ []))) ≡ ascii "refused 3 at 3\n"
+  pub refused-4-silent-figure : statement (opening (begin 1 1 ++ (fixedHour 0 (supply missing (pos 1)) ∷ []))) ≡ ascii "refused 4 at 3\n"
+  pub refused-4-carrier : statement (opening (headingOf 1 2020 1 2 2 2 ∷ [])) ≡ ascii "refused 4 at 0\n"
+  pub refused-5-check-digit : statement (opening (headingOf 1 2020 1 2 2 0 ∷ partyOf "0000000000018" 1 ∷ [])) ≡ ascii "refused 5 at 1\n"
+  pub refused-5-not-rising :
+      statement (opening (headingOf 1 2020 1 2 2 0 ∷ partyOf "0000000000024" 1 ∷ partyOf "0000000000024" 1 ∷ []))
+      ≡ ascii "refused 5 at 2\n"
+  -- W is judged once the whole file is read, and before the missing hour
+  pub refused-6 :
+      statement (small (supply missing (pos 0)) (supply measured (pos 3)) (supply measured (pos 2)) (supply measured (pos 2)) 0 0 4)
+      ≡ ascii "refused 6 at 0\n"
+  pub refused-7 :
+      statement (small (supply measured (pos 1)) (supply missing (pos 0)) (supply measured (pos 2)) (supply measured (pos 2)) 1 1 4)
+      ≡ ascii "refused 7 at 1\n"
+  -- all fixed hours before the refixed ones: 8 at the fixed hour 1 before 7 at the refixed hour 0
+  pub refused-8 :
+      statement (small (supply measured (pos 1)) (supply measured (negsuc 0)) (supply missing (pos 0)) (supply measured (pos 2)) 1 1 4)
+      ≡ ascii "refused 8 at 1\n"
+  pub refused-9 :
+      statement (small (supply measured (pos 1)) (supply measured (pos 3)) (supply measured (pos 2)) (supply measured (pos 2000000001)) 1 1 4)
+      ≡ ascii "refused 9 at 1\n"
+  -- 10 is judged on the fixed series, by hour, before 13 and 14
+  pub refused-10 :
+      statement (small (supply measured (pos 0)) (supply measured (pos 2001)) (supply measured (pos 2)) (supply measured (pos 2)) 1 1 4)
+      ≡ ascii "refused 10 at 1\n"
+  pub refused-11 : statement (closing (readingOf 1 1 1 4 ∷ [])) ≡ ascii "refused 11 at 7\n"
+  -- a reading with every fault: 4 before 11 before 12
+  pub range-before-span : statement (closing (readingOf 2 2 1 1000000001 ∷ [])) ≡ ascii "refused 4 at 7\n"
+  pub span-before-energy : statement (closing (readingOf 1 0 3 1000000001 ∷ [])) ≡ ascii "refused 11 at 7\n"
+  pub refused-12 : statement (closing (readingOf 1 0 2 1000000001 ∷ [])) ≡ ascii "refused 12 at 7\n"
+  pub refused-13 :
+      statement (small (supply measured (pos 0)) (supply measured (pos 0)) (supply measured (pos 2)) (supply measured (pos 2)) 1 1 4)
+      ≡ ascii "refused 13 at 0\n"
+  pub refused-14 :
+      statement (closing (readingOf 1 0 1 1000000000 ∷ readingOf 0 0 1 1000000000 ∷ readingOf 1 0 1 1 ∷ end 10 ∷ []))
+      ≡ ascii "refused 14 at 0\n"
+  -- a wrong count and bytes after the end: 15 first
+  pub refused-15 : statement (closing (end 8 ∷ end 8 ∷ [])) ≡ ascii "refused 15 at 7\n"
