@@ -219,15 +219,23 @@ module _ (n : ℕ) (share : ℕ → ℕ) (some : 0 < W n share) where
     pub demand-3 : Demand3 n share residual
     demand-3 = record { adds-up = hour-adds-up; rounded = hours-rounded; near = run-near; larger = sum-larger }
 
-    -- "A figure can be -1 (D3)": a figure lies in -1 .. residual + 1.
-    pub figure-bounds : (t i : ℕ) → i < n → (negsuc 0 ≤ℤ distributedFigure n share residual t i) × (distributedFigure n share residual t i ≤ℤ pos (residual t + 1))
-    unfolding distributedFigure runningAfter sum
-    figure-bounds t i b =
+    -- from one hour to the next a running sum falls by at most 1 and grows by at most the residual and 1
+    pub growth-in-range : (t i : ℕ) → i < n → (runningAfter n share residual t i ≤ runningAfter n share residual (suc t) i + 1) × (runningAfter n share residual (suc t) i ≤ runningAfter n share residual t i + residual t + 1)
+    unfolding runningAfter sum
+    growth-in-range t i b =
         let r : ℕ = sum t residual in
         let x : ℕ = residual t in
         let grown : share i * (r + x) ≡ share i * r + share i * x = mul-add (share i) r x in
         let at-most : share i * x ≤ W n share * x = mul-le-mul-right x (share-at-most-W i b) in
         let fall : runningSum n share r i < runningSum n share (r + x) i + 2 = lt-of-mul-lt-mul-right (W n share) (omega (arith, grown, running-below r i, running-above (r + x) i)) in
         let rise : runningSum n share (r + x) i < runningSum n share r i + x + 2 = lt-of-mul-lt-mul-right (W n share) (omega (arith, grown, at-most, running-above r i, running-below (r + x) i)) in
-        (minus-at-least (runningSum n share (r + x) i) (runningSum n share r i) 0 (omega arith),
-        minus-at-most (runningSum n share (r + x) i) (runningSum n share r i) (x + 1) (omega arith))
+        (omega arith, omega arith)
+
+    -- "A figure can be -1 (D3)": a figure lies in -1 .. residual + 1.
+    pub figure-bounds : (t i : ℕ) → i < n → (negsuc 0 ≤ℤ distributedFigure n share residual t i) × (distributedFigure n share residual t i ≤ℤ pos (residual t + 1))
+    unfolding distributedFigure
+    figure-bounds t i b =
+        let bounds = growth-in-range t i b in (
+          minus-at-least (runningAfter n share residual (suc t) i) (runningAfter n share residual t i) 0 (bounds .0),
+          minus-at-most (runningAfter n share residual (suc t) i) (runningAfter n share residual t i) (residual t + 1) (omega arith),
+        )

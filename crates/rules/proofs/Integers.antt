@@ -8,7 +8,7 @@ use native.Mathlib.Omega.{arith}
 use borrow.Author.Tests.{ltb-true, ltb-false, lt-ltb, le-ltb, eq-eqb, ne-eqb}
 use lib.Dec.{ltb, eqb, le→leb}
 use lib.Signed.{_≤ℤ_}
-use lib.IntN.{ℤ, pos, negsuc, negℤ, natAbs, subℕ, _+ℤ_, _-ℤ_, _*ℤ_, +ℤ-assoc, +ℤ-comm, +ℤ-idl, +ℤ-idr, +ℤ-invr, +ℤ-invl, negℤ-+ℤ, pos-+ℤ-pos, *ℤ-comm, sucℤ-*ℤ, sucℤ, *ℤ-negsuc, zero-*ℤ, *ℤ-zero}
+use lib.IntN.{ℤ, pos, negsuc, negℤ, natAbs, subℕ, _+ℤ_, _-ℤ_, _*ℤ_, +ℤ-assoc, +ℤ-comm, +ℤ-idl, +ℤ-idr, +ℤ-invr, +ℤ-invl, negℤ-+ℤ, negℤ-negℤ, *ℤ-comm, sucℤ-*ℤ, sucℤ, *ℤ-negsuc, zero-*ℤ, *ℤ-zero}
 use Rattle.rules.specs.Words.{sum, sumℤ}
 
 -- (a + b) + (c + d) = (a + c) + (b + d)
@@ -43,6 +43,11 @@ minus-add a b c d = interchange (pos a) (negℤ (pos b)) (pos c) (negℤ (pos d)
 pub minus-chain : (a b c : ℕ) → (pos b -ℤ pos a) +ℤ (pos c -ℤ pos b) ≡ pos c -ℤ pos a
 minus-chain a b c = minus-add b a c b ∙ minus-cong (b + c) (a + b) c a (omega arith)
 
+pub opposite : (a b : ℕ) → negℤ (pos a -ℤ pos b) ≡ pos b -ℤ pos a
+opposite a b =
+    negℤ-+ℤ (pos a) (negℤ (pos b)) ∙ ap (λ (x : ℤ). negℤ (pos a) +ℤ x) (negℤ-negℤ (pos b))
+    ∙ +ℤ-comm (negℤ (pos a)) (pos b)
+
 pub pos-minus-zero : (a : ℕ) → pos a -ℤ pos 0 ≡ pos a
 pos-minus-zero a = +ℤ-idr (pos a)
 
@@ -70,10 +75,35 @@ minus-at-most a b k h = rw (minus-is a b) (go (ltb a b) refl)
     go false e = let more : b ≤ a = ltb-false a b e in rw e (record { le = le→leb (a - b) k (omega arith) })
 
 -- sizes
+size-of-sub : (a b : ℕ) → natAbs (subℕ a b) ≤ a + b
+size-of-sub a b = go (ltb a b) refl
+  where
+    go : (t : Bool) → ltb a b ≡ t → natAbs (subℕ a b) ≤ a + b
+    go true e = let less : a < b = ltb-true a b e in rw e (omega arith)
+    go false e = rw e (omega arith)
+
 pub size-of-opposite : (z : ℤ) → natAbs (negℤ z) ≡ natAbs z
 size-of-opposite (pos zero) = refl
 size-of-opposite (pos (suc n)) = refl
 size-of-opposite (negsuc n) = refl
+
+pub size-of-sum : (a b : ℤ) → natAbs (a +ℤ b) ≤ natAbs a + natAbs b
+size-of-sum (pos a) (pos b) = omega arith
+size-of-sum (pos a) (negsuc b) = size-of-sub a (suc b)
+size-of-sum (negsuc a) (pos b) = omega (arith, size-of-sub b (suc a))
+size-of-sum (negsuc a) (negsuc b) = omega arith
+
+pub size-of-product : (a b : ℤ) → natAbs (a *ℤ b) ≡ natAbs a * natAbs b
+size-of-product (pos a) (pos b) = refl
+size-of-product (pos a) (negsuc b) = size-of-opposite (pos (a * suc b))
+size-of-product (negsuc a) (pos b) = size-of-opposite (pos (suc a * b))
+size-of-product (negsuc a) (negsuc b) = refl
+
+pub size-of-sums : (n : ℕ) (f : ℕ → ℤ) (most : ℕ) → ((i : ℕ) → i < n → natAbs (f i) ≤ most) → natAbs (sumℤ n f) ≤ n * most
+unfolding sumℤ
+size-of-sums zero f most h = omega arith
+size-of-sums (suc n) f most h =
+    omega (arith, size-of-sum (sumℤ n f) (f n), size-of-sums n f most (λ i b. h i (omega arith)), h n (omega arith))
 
 -- The product over a sum.
 times-suc : (m : ℤ) (n : ℕ) → m *ℤ pos (suc n) ≡ m *ℤ pos n +ℤ m

@@ -5,5 +5,8 @@ pub mod LargestRemainder
 pub mod Demand3
 pub mod Periodised
 pub mod Reconciliation
+pub mod Whole
+pub mod Month
 pub mod WorkedCases
 pub mod WorkedMonths
+pub mod WorkedServices

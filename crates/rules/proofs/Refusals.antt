@@ -10,7 +10,7 @@ use Rattle.rules.specs.Accepted.{NoneRefuses, FirstRefuses}
 use Rattle.rules.specs.Refusals.{Refusal, Verdict, accepted, refused, unless, andThen, first, inTurn}
 use Rattle.rules.specs.Words.{figures}
 
-refused-not-accepted : {r : Refusal} {place : ℕ} → refused r place ≡ accepted → ⊥
+pub refused-not-accepted : {r : Refusal} {place : ℕ} → refused r place ≡ accepted → ⊥
 refused-not-accepted e = let z : _≡_ {A = ℕ} 0 1 = cc in omega arith
 
 none-refuses : (checks : List Verdict) → first checks ≡ accepted → NoneRefuses checks

@@ -18,3 +18,4 @@ pub mod Services
 pub mod Statement
 pub mod WorkedCases
 pub mod WorkedMonths
+pub mod WorkedServices

@@ -1,0 +1,303 @@
+-- What is read is whole: a file that is read through to its end record has the records that its heading announces, each within its ranges. Each record
+-- that is due and right keeps what has been read so far `Sound`, and where the end record is due a sound month is `Whole`.
+use mathlib.Core.Bool.{Bool, true, false, cond, _&&_, _||_}
+use mathlib.Core.List.{List, [], _∷_, _++_}
+use mathlib.Core.Logic.{_⊎_, inl, inr, ⊎-elim}
+use mathlib.Core.Path.{_≡_, refl, sym, _∙_, ap, subst}
+use Prim.Native.Nat.{ℕ, zero, suc, _+_, _≤_, _<_, zero-le}
+use native.Mathlib.Nat.{not-suc-le-zero, le-of-suc-le-suc, eq-zero-or-pos}
+use native.Mathlib.Omega.{arith}
+use borrow.Author.Tests.{ltb-true, leb-true, eqb-true}
+use lib.Dec.{eqb, leb, ltb}
+use lib.IntN.{ℤ, pos, negsuc, natAbs}
+use lib.ListN.{length, getD, drop, length-append}
+use Rattle.rules.specs.Accepted.{NoneRefuses}
+use Rattle.rules.specs.Flows.{Flows, flowsInRange, silentIsZero}
+use Rattle.rules.specs.Gln.{validGln}
+use Rattle.rules.specs.Limits.{greatestArea, earliestYear, latestYear, monthsOfAYear, mostHours, mostParties, greatestShare, greatestEnergy, greatestPrice, longestFile}
+use Rattle.rules.specs.MonthFile.{MonthFile, nothingYet, H, P, due, recordChecks, with, isEnd, closed, onward, readOn, readMonth}
+use Rattle.rules.specs.Record.{Heading, Party, Reading, Record, heading, party, fixedHour, reading, price, refixedHour, end, inRange, glnRight, spanRight, energyRight, recordAt, fieldChecks, bodyLength}
+use Rattle.rules.specs.Refusals.{Refusal, fileFault, Verdict, accepted, refused, Answer, given, refusal, first}
+use Rattle.rules.specs.Words.{within, withinℤ}
+use Rattle.rules.proofs.Refusals.{accepted-exactly, unless-exactly}
+
+-- Tests that are both passed.
+pub both-pass : (a b : Bool) → a && b ≡ true → (a ≡ true) × (b ≡ true)
+both-pass true b e = (refl, e)
+both-pass false b e = (e, absurd (let z : _≡_ {A = ℕ} 0 1 = cc in omega arith))
+
+pub one-passes : (a b : Bool) → a || b ≡ true → (a ≡ true) ⊎ (b ≡ true)
+one-passes true b e = inl refl
+one-passes false b e = inr e
+
+pub within-is : (low high n : ℕ) → within low high n ≡ true → (low ≤ n) × (n ≤ high)
+unfolding within
+within-is low high n e =
+    let both : (leb low n ≡ true) × (leb n high ≡ true) = both-pass (leb low n) (leb n high) e in
+    (leb-true low n (both .0), leb-true n high (both .1))
+
+pub within-size : (most : ℕ) (z : ℤ) → withinℤ most z ≡ true → natAbs z ≤ most
+unfolding withinℤ
+within-size zero (pos n) e = leb-true n 0 (both-pass (leb 0 n) (leb n 0) e .1)
+within-size (suc most) (pos n) e = leb-true n (suc most) (both-pass true (leb n (suc most)) e .1)
+within-size zero (negsuc n) e = absurd (let z : _≡_ {A = ℕ} 0 1 = cc in omega arith)
+within-size (suc most) (negsuc n) e = omega (arith, leb-true n most (both-pass (leb n most) true e .0))
+
+-- Every member of a list is such.
+abbrev pub Every : {A : Type 0} → (A → Type 0) → List A → Type 0
+Every is [] = Unit
+Every is (x ∷ l) = is x × Every is l
+
+every-more : {A : Type 0} (is : A → Type 0) (l : List A) (x : A) → Every is l → is x → Every is (l ++ (x ∷ []))
+every-more is [] x h k = (k, tt)
+every-more is (y ∷ l) x h k = (h .0, every-more is l x (h .1) k)
+
+every-none : {A : Type 0} (is : A → Type 0) (l : List A) → length l ≡ 0 → Every is l
+every-none is [] e = tt
+every-none is (x ∷ l) e = absurd (omega arith)
+
+pub every-at : {A : Type 0} (is : A → Type 0) (l : List A) → Every is l → (i : ℕ) (d : A) → i < length l → is (getD l i d)
+every-at is [] h i d b = absurd (not-suc-le-zero b)
+every-at is (x ∷ l) h zero d b = h .0
+every-at is (x ∷ l) h (suc i) d b = every-at is l (h .1) i d (le-of-suc-le-suc b)
+
+one-more : {A : Type 0} (l : List A) (x : A) → length (l ++ (x ∷ [])) ≡ suc (length l)
+one-more l x = length-append l (x ∷ []) ∙ omega arith
+
+-- What the rule of its fields says of each kind.
+abbrev pub PartyRight : Party → Type 0
+PartyRight p = (p .share ≤ greatestShare) × (validGln (p .gln) ≡ true)
+
+abbrev pub FlowsRight : Flows → Type 0
+FlowsRight f = (flowsInRange f ≡ true) × (silentIsZero f ≡ true)
+
+abbrev pub PriceRight : ℤ → Type 0
+PriceRight z = withinℤ greatestPrice z ≡ true
+
+abbrev pub ReadingRight : ℕ → ℕ → Reading → Type 0
+ReadingRight hours parties r = (r .party < parties) × (r .a < r .b) × (r .b ≤ hours) × (r .e ≤ greatestEnergy)
+
+abbrev pub HeadingRight : Heading → Type 0
+HeadingRight h = inRange 0 0 (heading h) ≡ true
+
+pub record HeadingFacts (h : Heading) : Type 0 where
+  pub area : (1 ≤ h .area) × (h .area ≤ greatestArea)
+  pub year : (earliestYear ≤ h .year) × (h .year ≤ latestYear)
+  pub month : (1 ≤ h .month) × (h .month ≤ monthsOfAYear)
+  pub hours : (1 ≤ h .hours) × (h .hours ≤ mostHours)
+  pub parties : (1 ≤ h .parties) × (h .parties ≤ mostParties)
+  pub carrier : h .carrier < h .parties
+
+pub heading-facts : (h : Heading) → HeadingRight h → HeadingFacts h
+unfolding inRange
+heading-facts h e =
+    let area = within 1 greatestArea (h .area) in
+    let year = within earliestYear latestYear (h .year) in
+    let month = within 1 monthsOfAYear (h .month) in
+    let hours = within 1 mostHours (h .hours) in
+    let parties = within 1 mostParties (h .parties) in
+    let t5 = both-pass (area && year && month && hours && parties) (ltb (h .carrier) (h .parties)) e in
+    let t4 = both-pass (area && year && month && hours) parties (t5 .0) in
+    let t3 = both-pass (area && year && month) hours (t4 .0) in
+    let t2 = both-pass (area && year) month (t3 .0) in
+    let t1 = both-pass area year (t2 .0) in
+    record { area = within-is 1 greatestArea (h .area) (t1 .0); year = within-is earliestYear latestYear (h .year) (t1 .1); month = within-is 1 monthsOfAYear (h .month) (t2 .1); hours = within-is 1 mostHours (h .hours) (t3 .1); parties = within-is 1 mostParties (h .parties) (t4 .1); carrier = ltb-true (h .carrier) (h .parties) (t5 .1) }
+
+-- How many of each kind there are, of a file of h hours and p parties: a parties, f fixed and r refixed hours, q prices, g readings.
+record Counts (h p a f r q g : ℕ) : Type 0 where
+  parties : a ≤ p
+  fixed : f ≤ h
+  refixed : r ≤ h
+  prices : q ≤ h
+  parties-first : 0 < f → a ≡ p
+  fixed-first : 0 < r → f ≡ h
+  fixed-priced : 0 < q → f ≡ h
+  refixed-priced : 0 < q → 0 < r → r ≡ h
+  prices-first : 0 < g → (q ≡ h) × (0 < h)
+  headed : h ≡ 0 → p ≡ 0
+
+module _ {h p a f r q g : ℕ} (c : Counts h p a f r q g) where
+  before-the-heading : h ≡ 0 → (a ≡ 0) × (f ≡ 0) × (r ≡ 0) × (q ≡ 0) × (g ≡ 0)
+  before-the-heading z = (
+    omega (arith, c .parties, c .headed z),
+    omega (arith, c .fixed),
+    omega (arith, c .refixed),
+    omega (arith, c .prices),
+    ⊎-elim (λ (e : g ≡ 0). e) (λ (b : 0 < g). absurd (omega (arith, c .prices-first b .1))) (eq-zero-or-pos g),
+  )
+
+  one-party : a < p → Counts h p (suc a) f r q g
+  one-party b =
+      record { parties = b; fixed = c .fixed; refixed = c .refixed; prices = c .prices; parties-first = λ x. absurd (omega (arith, c .parties-first x)); fixed-first = c .fixed-first; fixed-priced = c .fixed-priced; refixed-priced = c .refixed-priced; prices-first = c .prices-first; headed = c .headed }
+
+  one-fixed : a ≡ p → f < h → Counts h p a (suc f) r q g
+  one-fixed e b =
+      record { parties = c .parties; fixed = b; refixed = c .refixed; prices = c .prices; parties-first = λ x. e; fixed-first = λ x. absurd (omega (arith, c .fixed-first x)); fixed-priced = λ x. absurd (omega (arith, c .fixed-priced x)); refixed-priced = c .refixed-priced; prices-first = c .prices-first; headed = c .headed }
+
+  one-refixed : f ≡ h → r < h → q ≡ 0 → Counts h p a f (suc r) q g
+  one-refixed e b z =
+      record { parties = c .parties; fixed = c .fixed; refixed = b; prices = c .prices; parties-first = c .parties-first; fixed-first = λ x. e; fixed-priced = c .fixed-priced; refixed-priced = λ x y. absurd (omega arith); prices-first = c .prices-first; headed = c .headed }
+
+  one-price : f ≡ h → (r ≡ 0) ⊎ (r ≡ h) → q < h → Counts h p a f r (suc q) g
+  one-price e none-or-all b =
+      record { parties = c .parties; fixed = c .fixed; refixed = c .refixed; prices = b; parties-first = c .parties-first; fixed-first = c .fixed-first; fixed-priced = λ x. e; refixed-priced = λ x y. ⊎-elim (λ (z : r ≡ 0). absurd (omega arith)) (λ (w : r ≡ h). w) none-or-all; prices-first = λ x. absurd (omega (arith, c .prices-first x .0)); headed = c .headed }
+
+  one-reading : q ≡ h → 0 < h → Counts h p a f r q (suc g)
+  one-reading e b =
+      record { parties = c .parties; fixed = c .fixed; refixed = c .refixed; prices = c .prices; parties-first = c .parties-first; fixed-first = c .fixed-first; fixed-priced = c .fixed-priced; refixed-priced = c .refixed-priced; prices-first = λ x. (e, b); headed = c .headed }
+
+none-counted : {h p : ℕ} → 0 < h → Counts h p 0 0 0 0 0
+none-counted {h} {p} b =
+    record { parties = zero-le; fixed = zero-le; refixed = zero-le; prices = zero-le; parties-first = λ x. absurd (omega arith); fixed-first = λ x. absurd (omega arith); fixed-priced = λ x. absurd (omega arith); refixed-priced = λ x y. absurd (omega arith); prices-first = λ x. absurd (omega arith); headed = λ z. absurd (omega arith) }
+
+nothing-counted : Counts 0 0 0 0 0 0 0
+nothing-counted =
+    record { parties = zero-le; fixed = zero-le; refixed = zero-le; prices = zero-le; parties-first = λ x. refl; fixed-first = λ x. refl; fixed-priced = λ x. refl; refixed-priced = λ x y. refl; prices-first = λ x. absurd (omega arith); headed = λ z. refl }
+
+record Sound (m : MonthFile) : Type 0 where
+  counts : Counts (H m) (P m) (length (m .parties)) (length (m .fixed)) (length (m .refixed)) (length (m .prices)) (length (m .readings))
+  head : 0 < H m → HeadingRight (m .heading)
+  parties : Every PartyRight (m .parties)
+  fixed : Every FlowsRight (m .fixed)
+  refixed : Every FlowsRight (m .refixed)
+  prices : Every PriceRight (m .prices)
+  readings : Every (ReadingRight (H m) (P m)) (m .readings)
+
+-- The month that a whole file gives.
+pub record Whole (m : MonthFile) : Type 0 where
+  pub head : HeadingRight (m .heading)
+  pub all-parties : length (m .parties) ≡ P m
+  pub all-fixed : length (m .fixed) ≡ H m
+  pub none-or-all-refixed : (length (m .refixed) ≡ 0) ⊎ (length (m .refixed) ≡ H m)
+  pub all-prices : length (m .prices) ≡ H m
+  pub parties : Every PartyRight (m .parties)
+  pub fixed : Every FlowsRight (m .fixed)
+  pub refixed : Every FlowsRight (m .refixed)
+  pub prices : Every PriceRight (m .prices)
+  pub readings : Every (ReadingRight (H m) (P m)) (m .readings)
+
+nothing-is-sound : Sound nothingYet
+unfolding nothingYet H P
+nothing-is-sound =
+    record { counts = nothing-counted; head = λ x. absurd (omega arith); parties = tt; fixed = tt; refixed = tt; prices = tt; readings = tt }
+
+-- One record that is due and right keeps the month sound.
+module _ (m : MonthFile) (s : Sound m) where
+  with-heading : (h : Heading) → due m (heading h) ≡ true → inRange (H m) (P m) (heading h) ≡ true → Sound (with m (heading h))
+  unfolding due with H P inRange
+  with-heading h d e =
+      let none = before-the-heading (s .counts) (eqb-true (m .heading .hours) 0 d) in
+      record { counts = simp (none .0, none .1, none .2, none .3, none .4) (none-counted (heading-facts h e .hours .0)); head = λ x. e; parties = s .parties; fixed = s .fixed; refixed = s .refixed; prices = s .prices; readings = every-none (ReadingRight (h .hours) (h .parties)) (m .readings) (none .4) }
+
+  with-party : (p : Party) → due m (party p) ≡ true → inRange (H m) (P m) (party p) ≡ true → glnRight (party p) ≡ true → Sound (with m (party p))
+  unfolding due with H P inRange glnRight
+  with-party p d e g =
+      record { counts = rw (one-more (m .parties) p) (one-party (s .counts) (ltb-true (length (m .parties)) (m .heading .parties) d)); head = s .head; parties = every-more PartyRight (m .parties) p (s .parties) (leb-true (p .share) greatestShare e, g); fixed = s .fixed; refixed = s .refixed; prices = s .prices; readings = s .readings }
+
+  flows-right : (hour : ℕ) (f : Flows) → ltb hour (H m) && flowsInRange f && silentIsZero f ≡ true → FlowsRight f
+  flows-right hour f e =
+      let outer = both-pass (ltb hour (H m) && flowsInRange f) (silentIsZero f) e in
+      (both-pass (ltb hour (H m)) (flowsInRange f) (outer .0) .1, outer .1)
+
+  with-fixed : (hour : ℕ) (f : Flows) → due m (fixedHour hour f) ≡ true → inRange (H m) (P m) (fixedHour hour f) ≡ true → Sound (with m (fixedHour hour f))
+  unfolding due with H P inRange
+  with-fixed hour f d e =
+      let tests = both-pass _ (ltb (length (m .fixed)) (H m)) (both-pass _ (eqb hour (length (m .fixed))) d .0) in
+      record { counts = rw (one-more (m .fixed) f) (one-fixed (s .counts) (eqb-true (length (m .parties)) (P m) (tests .0)) (ltb-true (length (m .fixed)) (H m) (tests .1))); head = s .head; parties = s .parties; fixed = every-more FlowsRight (m .fixed) f (s .fixed) (flows-right hour f e); refixed = s .refixed; prices = s .prices; readings = s .readings }
+
+  with-refixed : (hour : ℕ) (f : Flows) → due m (refixedHour hour f) ≡ true → inRange (H m) (P m) (refixedHour hour f) ≡ true → Sound (with m (refixedHour hour f))
+  unfolding due with H P inRange
+  with-refixed hour f d e =
+      let outer = both-pass _ (eqb (length (m .prices)) 0) (both-pass _ (eqb hour (length (m .refixed))) d .0) in
+      let inner = both-pass (eqb (length (m .fixed)) (H m)) (ltb (length (m .refixed)) (H m)) (outer .0) in
+      record { counts = rw (one-more (m .refixed) f) (one-refixed (s .counts) (eqb-true (length (m .fixed)) (H m) (inner .0)) (ltb-true (length (m .refixed)) (H m) (inner .1)) (eqb-true (length (m .prices)) 0 (outer .1))); head = s .head; parties = s .parties; fixed = s .fixed; refixed = every-more FlowsRight (m .refixed) f (s .refixed) (flows-right hour f e); prices = s .prices; readings = s .readings }
+
+  with-price : (hour : ℕ) (z : ℤ) → due m (price hour z) ≡ true → inRange (H m) (P m) (price hour z) ≡ true → Sound (with m (price hour z))
+  unfolding due with H P inRange
+  with-price hour z d e =
+      let outer = both-pass _ (ltb (length (m .prices)) (H m)) (both-pass _ (eqb hour (length (m .prices))) d .0) in
+      let inner = both-pass (eqb (length (m .fixed)) (H m)) (eqb (length (m .refixed)) 0 || eqb (length (m .refixed)) (H m)) (outer .0) in
+      let none-or-all : (length (m .refixed) ≡ 0) ⊎ (length (m .refixed) ≡ H m) = ⊎-elim (λ t. inl (eqb-true (length (m .refixed)) 0 t)) (λ t. inr (eqb-true (length (m .refixed)) (H m) t)) (one-passes (eqb (length (m .refixed)) 0) (eqb (length (m .refixed)) (H m)) (inner .1)) in
+      record { counts = rw (one-more (m .prices) z) (one-price (s .counts) (eqb-true (length (m .fixed)) (H m) (inner .0)) none-or-all (ltb-true (length (m .prices)) (H m) (outer .1))); head = s .head; parties = s .parties; fixed = s .fixed; refixed = s .refixed; prices = every-more PriceRight (m .prices) z (s .prices) (both-pass (ltb hour (H m)) (withinℤ greatestPrice z) e .1); readings = s .readings }
+
+  with-reading : (r : Reading) → due m (reading r) ≡ true → inRange (H m) (P m) (reading r) ≡ true → spanRight (H m) (reading r) ≡ true → energyRight (reading r) ≡ true → Sound (with m (reading r))
+  unfolding due with H P inRange spanRight energyRight
+  with-reading r d e w x =
+      let tests = both-pass (leb 1 (H m)) (eqb (length (m .prices)) (H m)) d in
+      let span = both-pass (ltb (r .a) (r .b)) (leb (r .b) (H m)) w in
+      record { counts = rw (one-more (m .readings) r) (one-reading (s .counts) (eqb-true (length (m .prices)) (H m) (tests .1)) (leb-true 1 (H m) (tests .0))); head = s .head; parties = s .parties; fixed = s .fixed; refixed = s .refixed; prices = s .prices; readings = every-more (ReadingRight (H m) (P m)) (m .readings) r (s .readings) (ltb-true (r .party) (P m) e, ltb-true (r .a) (r .b) (span .0), leb-true (r .b) (H m) (span .1), leb-true (r .e) greatestEnergy x) }
+
+  -- where the end record is due, all is there
+  at-the-end : (count : ℕ) → due m (end count) ≡ true → Whole m
+  unfolding due H P
+  at-the-end count d =
+      let tests = both-pass (leb 1 (H m)) (eqb (length (m .prices)) (H m)) d in
+      let some : 1 ≤ H m = leb-true 1 (H m) (tests .0) in
+      let all : length (m .prices) ≡ H m = eqb-true (length (m .prices)) (H m) (tests .1) in
+      let priced : 0 < length (m .prices) = omega arith in
+      let all-fixed : length (m .fixed) ≡ H m = s .counts .fixed-priced priced in
+      let none-or-all : (length (m .refixed) ≡ 0) ⊎ (length (m .refixed) ≡ H m) = ⊎-elim (λ z. inl z) (λ b. inr (s .counts .refixed-priced priced b)) (eq-zero-or-pos (length (m .refixed))) in
+      record { head = s .head some; all-parties = s .counts .parties-first (omega arith); all-fixed = all-fixed; none-or-all-refixed = none-or-all; all-prices = all; parties = s .parties; fixed = s .fixed; refixed = s .refixed; prices = s .prices; readings = s .readings }
+
+-- A record of any kind that passes its checks.
+step : (m : MonthFile) → Sound m → (r : Record) → due m r ≡ true → inRange (H m) (P m) r ≡ true → glnRight r ≡ true → spanRight (H m) r ≡ true → energyRight r ≡ true → Sound (with m r)
+unfolding with
+step m s (heading h) d e g w x = with-heading m s h d e
+step m s (party p) d e g w x = with-party m s p d e g
+step m s (fixedHour hour f) d e g w x = with-fixed m s hour f d e
+step m s (reading r) d e g w x = with-reading m s r d e w x
+step m s (price hour z) d e g w x = with-price m s hour z d e
+step m s (refixedHour hour f) d e g w x = with-refixed m s hour f d e
+step m s (end count) d e g w x = s
+
+given-not-refusal : {m : MonthFile} {r : Refusal} {place : ℕ} → refusal r place ≡ given m → ⊥
+given-not-refusal e = let z : _≡_ {A = ℕ} 0 1 = cc in omega arith
+
+went-on : (v : Verdict) (rest : Answer MonthFile) {m : MonthFile} → onward v rest ≡ given m → (v ≡ accepted) × (rest ≡ given m)
+unfolding onward
+went-on accepted rest e = (refl, e)
+went-on (refused r place) rest e = absurd (given-not-refusal e)
+
+closed-gives : (m : MonthFile) (n : ℕ) (bytes : List ℕ) {m′ : MonthFile} → closed m n bytes ≡ given m′ → m ≡ m′
+unfolding closed
+closed-gives m n [] e = cc
+closed-gives m n (byte ∷ bytes) e = absurd (given-not-refusal e)
+
+-- the last record, or one more and the rest
+past-one : (m : MonthFile) → Sound m → (r : Record) (n : ℕ) (after : List ℕ) (rest : Answer MonthFile) {m′ : MonthFile}
+    → due m r ≡ true
+    → Sound (with m r)
+    → (Sound (with m r) → rest ≡ given m′ → Whole m′)
+    → cond (isEnd r) (closed m n after) rest ≡ given m′
+    → Whole m′
+unfolding isEnd
+past-one m s (heading h) n after rest d s′ ih e = ih s′ e
+past-one m s (party p) n after rest d s′ ih e = ih s′ e
+past-one m s (fixedHour hour f) n after rest d s′ ih e = ih s′ e
+past-one m s (reading r) n after rest d s′ ih e = ih s′ e
+past-one m s (price hour z) n after rest d s′ ih e = ih s′ e
+past-one m s (refixedHour hour f) n after rest d s′ ih e = ih s′ e
+past-one m s (end count) n after rest d s′ ih e = subst Whole (closed-gives m n after e) (at-the-end m s count d)
+
+read-on-whole : (more : ℕ) (bytes : List ℕ) (n : ℕ) (m : MonthFile) → Sound m → {m′ : MonthFile} → readOn more bytes n m ≡ given m′ → Whole m′
+unfolding readOn recordChecks fieldChecks
+read-on-whole zero bytes n m s e = absurd (given-not-refusal e)
+read-on-whole (suc more) [] n m s e = absurd (given-not-refusal e)
+read-on-whole (suc more) (kind ∷ body) n m s {m′} e =
+    let r = recordAt (kind ∷ body) in
+    let on = went-on (first (recordChecks m n (kind ∷ body))) _ e in
+    let passed = accepted-exactly (recordChecks m n (kind ∷ body)) .0 (on .0) in
+    let d : due m r ≡ true = unless-exactly (due m r) _ _ .0 (passed .1 .1 .0) in
+    let s′ : Sound (with m r) = step m s r d (unless-exactly (inRange (H m) (P m) r) _ _ .0 (passed .1 .1 .1 .0)) (unless-exactly (glnRight r) _ _ .0 (passed .1 .1 .1 .1 .0)) (unless-exactly (spanRight (H m) r) _ _ .0 (passed .1 .1 .1 .1 .1 .0)) (unless-exactly (energyRight r) _ _ .0 (passed .1 .1 .1 .1 .1 .1 .0)) in
+    past-one m s r (suc n) (drop (bodyLength kind) body) (readOn more (drop (bodyLength kind) body) (suc n) (with m r)) d s′
+    (λ s″. read-on-whole more (drop (bodyLength kind) body) (suc n) (with m r) s″)
+    (on .1)
+
+of-the-right-length : (fits : Bool) (bytes : List ℕ) {m : MonthFile} → cond fits (readOn (length bytes) bytes 0 nothingYet) (refusal fileFault 0) ≡ given m → Whole m
+of-the-right-length true bytes e = read-on-whole (length bytes) bytes 0 nothingYet nothing-is-sound e
+of-the-right-length false bytes e = absurd (given-not-refusal e)
+
+-- WHAT IS READ IS WHOLE.
+pub what-is-read-is-whole : (bytes : List ℕ) {m : MonthFile} → readMonth bytes ≡ given m → Whole m
+unfolding readMonth
+what-is-read-is-whole bytes e = of-the-right-length (within 1 longestFile (length bytes)) bytes e

@@ -1,0 +1,87 @@
+-- The services alone, where orders and places show: 16 first, then 4 with its places, then each service's own; and one record read and written
+-- alone. Proved in proofs/WorkedServices, by computing the definitions.
+use mathlib.Core.List.{List, [], _∷_, _++_}
+use mathlib.Core.Path.{_≡_}
+use Prim.Native.Nat.{ℕ}
+use lib.IntN.{ℤ, pos, negsuc}
+use lib.ListN.{replicate}
+use Rattle.rules.specs.Record.{Record, heading, party, fixedHour, reading, price, refixedHour, end, recordBytes, readAlone, writeVerdict, written}
+use Rattle.rules.specs.Refusals.{fileFault, unknownKind, outOfRange, glnFault, wOutOfRange, missingHour, residualNegative, residualTooLarge, curveTooLarge, spanFault, energyTooLarge, nothingToFollow, periodisedTooLarge, wrongLength, accepted, refused, given, refusal, first}
+use Rattle.rules.specs.Services.{residualChecks, residualFigures, curveChecks, distributionChecks, periodisationChecks, reconciliationChecks, reconciliationLoss, reconciliationDifferences, reconciliationAmounts}
+use Rattle.rules.specs.WorkedMonths.{supply, partyOf, readingOf, headingOf}
+
+-- nothing in two hours
+unfoldable pub none : List ℕ
+none = 0 ∷ 0 ∷ []
+
+unfoldable pub still : List ℤ
+still = pos 0 ∷ pos 0 ∷ []
+
+pub record WorkedServices : Type 0 where
+  -- "H 745, P 64 .. accepted; one more refused (4, 4 ..)"
+  pub hours-745 : first (curveChecks (replicate 745 1) 1 745) ≡ accepted
+  pub hours-746 : first (curveChecks (replicate 746 1) 1 746) ≡ refused outOfRange 0
+  pub parties-64 : first (distributionChecks (replicate 64 1) (1 ∷ []) 64) ≡ accepted
+  pub parties-65 : first (distributionChecks (replicate 65 1) (1 ∷ []) 65) ≡ refused outOfRange 0
+  -- "E 1,000,000,000 accepted; one more refused (.. 12)"
+  pub energy-most : first (periodisationChecks 1000000000 (1 ∷ []) 1) ≡ accepted
+  pub energy-above : first (periodisationChecks 1000000001 (1 ∷ []) 1) ≡ refused energyTooLarge 0
+  -- residual: 16 before lists of unequal length, those before H, and an empty list is 4
+  pub residual-lent : first (residualChecks (1 ∷ []) [] none none none 2) ≡ refused wrongLength 0
+  pub residual-unequal : first (residualChecks (3 ∷ []) [] none none none 1) ≡ refused outOfRange 0
+  pub residual-empty : first (residualChecks [] [] [] [] [] 0) ≡ refused outOfRange 0
+  -- "lists in the order named": the status of hour 1 before the net supply of hour 0
+  pub residual-lists-in-order : first (residualChecks (1 ∷ 3 ∷ []) (pos 8000000001 ∷ pos 0 ∷ []) none none none 2) ≡ refused outOfRange 1
+  -- "after all ranges": the flex of hour 1 before the figure of the silent hour 0
+  pub residual-silent-last : first (residualChecks (0 ∷ 1 ∷ []) (pos 5 ∷ pos 0 ∷ []) none none (0 ∷ 8000000001 ∷ []) 2) ≡ refused outOfRange 1
+  pub residual-silent : first (residualChecks (1 ∷ 0 ∷ []) (pos 5 ∷ pos 5 ∷ []) none none none 2) ≡ refused outOfRange 1
+  -- "residual 7, 8, 9 hour by hour": 8 in hour 0 before 7 in hour 1
+  pub residual-by-hour : first (residualChecks (1 ∷ 0 ∷ []) (negsuc 0 ∷ pos 0 ∷ []) none none none 2) ≡ refused residualNegative 0
+  pub residual-missing : first (residualChecks (1 ∷ 0 ∷ []) still none none none 2) ≡ refused missingHour 1
+  pub residual-too-large : first (residualChecks (2 ∷ 2 ∷ []) (pos 2000000000 ∷ pos 2000000001 ∷ []) none none none 2) ≡ refused residualTooLarge 1
+  pub residual-given : residualFigures (1 ∷ 2 ∷ []) (negsuc 4 ∷ pos 7 ∷ []) (105 ∷ 0 ∷ []) (40 ∷ 0 ∷ []) (20 ∷ 0 ∷ []) ≡ 40 ∷ 7 ∷ []
+  -- curve: "6, 9 over all hours, 10"
+  pub curve-W : first (curveChecks (2000000001 ∷ []) 0 1) ≡ refused wOutOfRange 0
+  pub curve-9-over-all-hours : first (curveChecks (1001 ∷ 2000000001 ∷ []) 1 2) ≡ refused residualTooLarge 1
+  -- distribution: a share at its party before W, W before 9
+  pub distribution-share : first (distributionChecks (0 ∷ 4000000001 ∷ []) (1 ∷ []) 2) ≡ refused outOfRange 1
+  pub distribution-W : first (distributionChecks (4000000000 ∷ 1 ∷ []) (2000000001 ∷ []) 2) ≡ refused wOutOfRange 0
+  pub distribution-residual : first (distributionChecks (4000000000 ∷ 0 ∷ []) (1 ∷ 2000000001 ∷ []) 4) ≡ refused residualTooLarge 1
+  -- periodisation: "11, 12, 10, 13 (all at place 0 but 10)"
+  pub periodisation-no-hours : first (periodisationChecks 1000000001 [] 0) ≡ refused spanFault 0
+  pub periodisation-weight : first (periodisationChecks 7 (0 ∷ 1000000001 ∷ []) 2) ≡ refused curveTooLarge 1
+  -- reconciliation: a carrier that is no party; -1 and 2,000,000,001 are within, -2 is not; not adding up is 4, adding up to too much 9; then 14
+  pub reconciliation-carrier : first (reconciliationChecks 1 (pos 1 ∷ []) (0 ∷ []) 1 (pos 0) 1 1) ≡ refused outOfRange 0
+  pub reconciliation-price : first (reconciliationChecks 1 (pos 1 ∷ []) (0 ∷ []) 0 (negsuc 5000000) 1 1) ≡ refused outOfRange 0
+  pub reconciliation-edges : first (reconciliationChecks 2000000000 (negsuc 0 ∷ pos 2000000001 ∷ []) none 0 (pos 0) 2 2) ≡ accepted
+  pub reconciliation-below : first (reconciliationChecks 0 (pos 2 ∷ negsuc 1 ∷ []) none 0 (pos 0) 2 2) ≡ refused outOfRange 1
+  pub reconciliation-not-adding-up : first (reconciliationChecks 2000000001 (pos 1 ∷ pos 1 ∷ []) none 0 (pos 0) 2 2) ≡ refused outOfRange 0
+  pub reconciliation-residual : first (reconciliationChecks 2000000001 (pos 2000000001 ∷ pos 0 ∷ []) none 0 (pos 0) 2 2) ≡ refused residualTooLarge 0
+  pub reconciliation-periodised : first (reconciliationChecks 1 (pos 1 ∷ pos 0 ∷ []) (2000000000 ∷ 1 ∷ []) 0 (pos 0) 2 2) ≡ refused periodisedTooLarge 0
+  -- H2 6.3, hour 0 of S1: 39,000,000 with 7,800,000, 20,100,000 and 10,000,000 periodised; the last carries the loss of 1,100,000
+  pub reconciliation-loss : reconciliationLoss 39000000 (7800000 ∷ 20100000 ∷ 10000000 ∷ []) ≡ pos 1100000
+  pub reconciliation-differences :
+      reconciliationDifferences 39000000 (pos 5850000 ∷ pos 23400000 ∷ pos 9750000 ∷ []) (7800000 ∷ 20100000 ∷ 10000000 ∷ []) 2
+      ≡ pos 1950000 ∷ negsuc 3299999 ∷ pos 1350000 ∷ []
+  pub reconciliation-amounts :
+      reconciliationAmounts (pos 1950000 ∷ negsuc 3299999 ∷ pos 1350000 ∷ []) (pos 29000)
+      ≡ pos 56550000000 ∷ negsuc 95699999999 ∷ pos 39150000000 ∷ []
+  -- one record alone: an empty part is 1; 2 before 1; bytes after it are not looked at; 744 and 745, 63 and 64
+  pub alone-empty : readAlone [] ≡ refusal fileFault 0
+  pub alone-unknown : readAlone (8 ∷ []) ≡ refusal unknownKind 0
+  pub alone-cut : readAlone (7 ∷ 0 ∷ 0 ∷ 1 ∷ []) ≡ refusal fileFault 0
+  pub alone-after : readAlone (7 ∷ 0 ∷ 0 ∷ 1 ∷ 0 ∷ 255 ∷ []) ≡ given (end 256)
+  pub alone-signed : readAlone (recordBytes (fixedHour 744 (supply 1 (negsuc 7999999999)))) ≡ given (fixedHour 744 (supply 1 (negsuc 7999999999)))
+  pub alone-hour : readAlone (recordBytes (price 745 (pos 0))) ≡ refusal outOfRange 0
+  pub alone-party : readAlone (recordBytes (readingOf 64 0 745 0)) ≡ refusal outOfRange 0
+  pub alone-span : readAlone (recordBytes (readingOf 63 0 746 0)) ≡ refusal spanFault 0
+  -- the writer: 4, 5, 11, 12 and then 16; a longer part keeps what stands behind the record
+  pub write-share-before-gln : writeVerdict (partyOf "123" 4000000001) 0 ≡ refused outOfRange 0
+  pub write-gln : writeVerdict (partyOf "123" 1) 0 ≡ refused glnFault 0
+  -- GS1's worked example, 629104150021 with check digit 3, and a GLN in public use
+  pub write-gs1 : writeVerdict (partyOf "6291041500213" 1) 22 ≡ accepted
+  pub write-public : writeVerdict (partyOf "5790001330552" 1) 22 ≡ accepted
+  pub write-gs1-digit : writeVerdict (partyOf "6291041500214" 1) 22 ≡ refused glnFault 0
+  pub write-short : writeVerdict (end 1) 4 ≡ refused wrongLength 0
+  pub write-long : writeVerdict (end 1) 7 ≡ accepted
+  pub write-nothing-further-on : written (end 1) (9 ∷ 9 ∷ 9 ∷ 9 ∷ 9 ∷ 8 ∷ 7 ∷ []) ≡ 7 ∷ 0 ∷ 0 ∷ 0 ∷ 1 ∷ 8 ∷ 7 ∷ []
