@@ -2,6 +2,7 @@ pub mod Refusals
 pub mod Sums
 pub mod Integers
 pub mod LargestRemainder
+pub mod Flows
 pub mod Demand3
 pub mod Periodised
 pub mod Reconciliation

@@ -53,5 +53,5 @@ sum-member (suc n) f {i} b = ⊎-elim (λ (e : i ≡ n). rw e (omega arith)) (λ
 -- a sum over a + b figures is that over the first a, and that over the b after them
 pub sum-split : (a b : ℕ) (f : ℕ → ℕ) → sum (a + b) f ≡ sum a f + sum b (λ k. f (a + k))
 unfolding sum
-sum-split a zero f = rw add-zero (omega arith)
+sum-split a zero f = rw (add-zero a) (omega arith)
 sum-split a (suc b) f = rw add-suc (omega (arith, sum-split a b f))

@@ -98,7 +98,7 @@ pub record WorkedMonths : Type 0 where
   -- "The curve always comes from the fixed one": 1 and 3, so E = 4 falls 1 and 3 (by the refixed 2 and 2 it would fall 2 and 2). The second party has 1
   -- and 1 distributed, so its differences are 0 and 2. Applied hours with status 2: one, the refixed hour 1.
   pub curve-from-fixed :
-      statement (small (supply estimated (pos 1)) (supply measured (pos 3)) (supply measured (pos 2)) (supply estimated (pos 2)) 1 1 4)
+      statement (small (supply measured (pos 1)) (supply measured (pos 3)) (supply measured (pos 2)) (supply estimated (pos 2)) 1 1 4)
       ≡ ascii
       "area 001 2020-01 hours 2 parties 2 estimated 1\n0000000000017 2 0 0 -2 -2\n0000000000024 2 4 0 2 2\ntotal 4 4 0 0 0\n"
   -- without refixed hours the fixed ones are applied; two readings of one party add up; the loss of either sign is the carrier's

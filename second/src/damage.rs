@@ -1,0 +1,1035 @@
+//! The damages: months with a fault for each refusal 1 to 15, in each way that its row of the table names; two faults at
+//! once, so that their order shows; and random damage.
+//!
+//! A fault of a draft changes fields and tells the refusal that it alone must give. A fault of the bytes works on the
+//! records of a good draft and tells its aim. Neither is asked what the reader says: the tests compare the two.
+
+use crate::draft::{measured_hour, Draft};
+use crate::gln::with_check_digit;
+use crate::limits::{FILE_BYTES_MAX, STATUS_MISSING};
+use crate::make::{add_readings, month, most_residual_wh, random_hour, Aim};
+use crate::random::Random;
+use crate::record::{Heading, HourFlows, Party, Reading, Record, FIXED_HOUR, REFIXED_HOUR};
+use crate::refusal::{Number, Refusal};
+
+type DraftFault = fn(&mut Draft, &mut Random) -> Refusal;
+type BytesFault = fn(Draft, &mut Random) -> (Vec<u8>, Aim);
+
+/// The damaged file of this number: all damages in turn.
+pub fn damaged(number: usize, random: &mut Random) -> (&'static str, Vec<u8>, Aim) {
+    let mut draft = good_month(random);
+    let number = number % (BYTES_FAULTS.len() + DRAFT_FAULTS.len() + RANDOM_DAMAGES.len());
+    if let Some((name, fault)) = BYTES_FAULTS.get(number) {
+        let (bytes, aim) = fault(draft, random);
+        return (name, bytes, aim);
+    }
+    let number = number - BYTES_FAULTS.len();
+    if let Some((name, fault)) = DRAFT_FAULTS.get(number) {
+        let refusal = fault(&mut draft, random);
+        return (name, draft.bytes(), Aim::Refused(refusal));
+    }
+    let (name, damage) = RANDOM_DAMAGES[number - DRAFT_FAULTS.len()];
+    (name, damage(draft, random), Aim::Anything)
+}
+
+/// A month to damage: mostly small, now and then of full size; at least two hours, parties and readings.
+fn good_month(random: &mut Random) -> Draft {
+    let refixed = random.once_in(2);
+    if random.once_in(16) {
+        let readings = 20 + random.below(300);
+        return month(random, 745, 64, refixed, readings);
+    }
+    let (hours, parties, readings) = (
+        2 + random.below(5),
+        2 + random.below(4),
+        2 + random.below(5),
+    );
+    month(random, hours, parties, refixed, readings)
+}
+
+// Faults of the fields.
+
+/// Faults that stay within the order of the records.
+pub const DRAFT_FAULTS: &[(&str, DraftFault)] = &[
+    // 3: hour fields
+    ("fixed hour field", |draft, random| {
+        let hour = random.below(draft.fixed.len());
+        draft.fixed[hour].hour = other_hour(random, hour);
+        Number::OutOfOrder.at(draft.at_fixed(hour))
+    }),
+    ("refixed hour field", |draft, random| {
+        have_refixed(draft);
+        let hour = random.below(draft.refixed.len());
+        draft.refixed[hour].hour = other_hour(random, hour);
+        Number::OutOfOrder.at(draft.at_refixed(hour))
+    }),
+    ("price hour field", |draft, random| {
+        let hour = random.below(draft.prices.len());
+        draft.prices[hour].hour = other_hour(random, hour);
+        Number::OutOfOrder.at(draft.at_price(hour))
+    }),
+    // 4: the heading
+    ("area 0", |draft, _| {
+        draft.heading.area = 0;
+        Number::OutsideRange.at(0)
+    }),
+    ("area 1000", |draft, random| {
+        draft.heading.area = outside(random, 1_000, &[1_024, 65_535]);
+        Number::OutsideRange.at(0)
+    }),
+    ("year 1999", |draft, random| {
+        draft.heading.year = outside(random, 1_999, &[16, 0]);
+        Number::OutsideRange.at(0)
+    }),
+    ("year 2100", |draft, random| {
+        draft.heading.year = outside(random, 2_100, &[65_535]);
+        Number::OutsideRange.at(0)
+    }),
+    ("month 0", |draft, _| {
+        draft.heading.month = 0;
+        Number::OutsideRange.at(0)
+    }),
+    ("month 13", |draft, random| {
+        draft.heading.month = outside(random, 13, &[255]);
+        Number::OutsideRange.at(0)
+    }),
+    ("H 0", |draft, _| {
+        draft.heading.hours = 0;
+        Number::OutsideRange.at(0)
+    }),
+    ("H 746", |draft, random| {
+        draft.heading.hours = outside(random, 746, &[65_535]);
+        Number::OutsideRange.at(0)
+    }),
+    ("P 0", |draft, _| {
+        draft.heading.parties = 0;
+        draft.heading.carrier = 0;
+        Number::OutsideRange.at(0)
+    }),
+    ("P 65", |draft, random| {
+        draft.heading.parties = outside(random, 65, &[255]);
+        Number::OutsideRange.at(0)
+    }),
+    ("carrier P", |draft, random| {
+        draft.heading.carrier = outside(random, draft.heading.parties, &[255]);
+        Number::OutsideRange.at(0)
+    }),
+    // 4: party, hours, price, reading
+    ("load share", |draft, random| {
+        let party = random.below(draft.parties.len());
+        draft.parties[party].load_share_kwh = outside(random, 4_000_000_001, &[1 << 63, u64::MAX]);
+        Number::OutsideRange.at(draft.at_party(party))
+    }),
+    ("status", |draft, random| {
+        flow_fault(draft, random, |flows, random| {
+            flows.status = outside(random, 3, &[4, 128, 255]);
+        })
+    }),
+    ("net supply too large", |draft, random| {
+        flow_fault(draft, random, |flows, random| {
+            flows.net_supply_wh = outside(random, 8_000_000_001, &[i64::MAX]);
+        })
+    }),
+    ("net supply too low", |draft, random| {
+        flow_fault(draft, random, |flows, random| {
+            flows.net_supply_wh = outside(random, -8_000_000_001, &[i64::MIN]);
+        })
+    }),
+    ("production", |draft, random| {
+        flow_fault(draft, random, |flows, random| {
+            flows.production_wh = too_large_flow(random);
+        })
+    }),
+    ("hourly", |draft, random| {
+        flow_fault(draft, random, |flows, random| {
+            flows.hourly_wh = too_large_flow(random);
+        })
+    }),
+    ("flex", |draft, random| {
+        flow_fault(draft, random, |flows, random| {
+            flows.flex_wh = too_large_flow(random);
+        })
+    }),
+    ("net supply with status 0", |draft, random| {
+        missing_with(draft, random, |flows, figure| flows.net_supply_wh = figure)
+    }),
+    ("production with status 0", |draft, random| {
+        missing_with(draft, random, |flows, figure| {
+            flows.production_wh = figure.unsigned_abs();
+        })
+    }),
+    ("hourly with status 0", |draft, random| {
+        missing_with(draft, random, |flows, figure| {
+            flows.hourly_wh = figure.unsigned_abs();
+        })
+    }),
+    ("flex with status 0", |draft, random| {
+        missing_with(draft, random, |flows, figure| {
+            flows.flex_wh = figure.unsigned_abs();
+        })
+    }),
+    ("price too large", |draft, random| {
+        let hour = random.below(draft.prices.len());
+        draft.prices[hour].price_ore = outside(random, 5_000_001, &[i32::MAX]);
+        Number::OutsideRange.at(draft.at_price(hour))
+    }),
+    ("price too low", |draft, random| {
+        let hour = random.below(draft.prices.len());
+        draft.prices[hour].price_ore = outside(random, -5_000_001, &[i32::MIN]);
+        Number::OutsideRange.at(draft.at_price(hour))
+    }),
+    ("party of a reading", |draft, random| {
+        let reading = random.below(draft.readings.len());
+        draft.readings[reading].party = outside(random, draft.parties.len() as u8, &[64, 255]);
+        Number::OutsideRange.at(draft.at_reading(reading))
+    }),
+    // 5
+    ("GLN with a byte that is no digit", |draft, random| {
+        let (party, position) = (random.below(draft.parties.len()), random.below(13));
+        draft.parties[party].gln[position] = *random.pick(b"/: A\0\xB0\xFF");
+        Number::BadGln.at(draft.at_party(party))
+    }),
+    (
+        "GLN with a byte that is no digit, of a right sum",
+        |draft, random| {
+            // Ten more than the digit's own value changes no weighted sum modulo 10.
+            let (party, position) = (random.below(draft.parties.len()), random.below(13));
+            draft.parties[party].gln[position] =
+                draft.parties[party].gln[position].wrapping_add(10);
+            Number::BadGln.at(draft.at_party(party))
+        },
+    ),
+    ("GLN with a wrong check digit", |draft, random| {
+        let party = random.below(draft.parties.len());
+        let check_digit = &mut draft.parties[party].gln[12];
+        *check_digit =
+            b'0' + (check_digit.wrapping_sub(b'0') % 10 + 1 + random.below(9) as u8) % 10;
+        Number::BadGln.at(draft.at_party(party))
+    }),
+    ("GLN equal to the one before", |draft, random| {
+        let party = 1 + random.below(draft.parties.len() - 1);
+        draft.parties[party].gln = draft.parties[party - 1].gln;
+        Number::BadGln.at(draft.at_party(party))
+    }),
+    ("GLN below the one before", |draft, random| {
+        let party = 1 + random.below(draft.parties.len() - 1);
+        let gln = draft.parties[party].gln;
+        draft.parties[party].gln = draft.parties[party - 1].gln;
+        draft.parties[party - 1].gln = gln;
+        Number::BadGln.at(draft.at_party(party))
+    }),
+    // 6
+    ("W 0", |draft, _| {
+        set_shares(draft, 0, 0);
+        Number::BadShareSum.at(0)
+    }),
+    ("W one too large", |draft, _| {
+        set_shares(draft, 4_000_000_000, 1);
+        Number::BadShareSum.at(0)
+    }),
+    ("W beyond 32 bits", |draft, random| {
+        // 2^32 and a little: what is left of it in 32 bits would be a good W.
+        set_shares(
+            draft,
+            4_000_000_000,
+            294_967_296 + random.any_size(1_000_000),
+        );
+        Number::BadShareSum.at(0)
+    }),
+    // 7, 8, 9
+    ("fixed hour missing", |draft, random| {
+        let hour = random.below(draft.fixed.len());
+        draft.fixed[hour] = missing_hour(hour);
+        Number::MissingHour.at(hour)
+    }),
+    ("refixed hour missing", |draft, random| {
+        have_refixed(draft);
+        let hour = random.below(draft.refixed.len());
+        draft.refixed[hour] = missing_hour(hour);
+        Number::MissingHour.at(hour)
+    }),
+    ("fixed residual negative", |draft, random| {
+        let hour = random.below(draft.fixed.len());
+        draft.fixed[hour] = negative_hour(random, hour);
+        Number::NegativeResidual.at(hour)
+    }),
+    ("refixed residual negative", |draft, random| {
+        have_refixed(draft);
+        let hour = random.below(draft.refixed.len());
+        draft.refixed[hour] = negative_hour(random, hour);
+        Number::NegativeResidual.at(hour)
+    }),
+    ("fixed residual too large", |draft, random| {
+        let hour = random.below(draft.fixed.len());
+        draft.fixed[hour] = too_large_hour(random, hour);
+        Number::ResidualTooLarge.at(hour)
+    }),
+    ("refixed residual too large", |draft, random| {
+        have_refixed(draft);
+        let hour = random.below(draft.refixed.len());
+        draft.refixed[hour] = too_large_hour(random, hour);
+        Number::ResidualTooLarge.at(hour)
+    }),
+    // 10
+    ("curve number too large", |draft, random| {
+        let hour = random.below(draft.fixed.len());
+        steep_curve(draft, random, hour);
+        Number::CurveNumberTooLarge.at(hour)
+    }),
+    // 11
+    ("a = b", |draft, random| {
+        span_fault(draft, random, |hours, random| {
+            let hour = random.below(hours + 1);
+            (hour, hour)
+        })
+    }),
+    ("a > b", |draft, random| {
+        span_fault(draft, random, |hours, random| {
+            let b = random.below(hours);
+            (b + 1 + random.below(hours - b), b)
+        })
+    }),
+    ("b above H", |draft, random| {
+        span_fault(draft, random, |hours, random| {
+            let b = *random.pick(&[hours + 1, hours + 2, 65_535]);
+            (random.below(hours + 1), b)
+        })
+    }),
+    // 12
+    ("E too large", |draft, random| {
+        let reading = random.below(draft.readings.len());
+        draft.readings[reading].e_wh = outside(random, 1_000_000_001, &[1 << 31, u32::MAX]);
+        Number::ReadingTooLarge.at(draft.at_reading(reading))
+    }),
+    // 13
+    ("E over real zeros", |draft, random| {
+        let reading = weightless_reading(draft, random);
+        let span = usize::from(reading.a)..usize::from(reading.b);
+        for hour in span {
+            draft.fixed[hour] = random_hour(random, hour, 0);
+        }
+        Number::NoWeight.at(draft.readings.len() - 1)
+    }),
+    ("E over curve numbers rounded to 0", |draft, random| {
+        set_shares(draft, 4_000_000_000, 0);
+        let reading = weightless_reading(draft, random);
+        let span = usize::from(reading.a)..usize::from(reading.b);
+        for hour in span {
+            let residual = random.between(1, 3_999);
+            draft.fixed[hour] = random_hour(random, hour, residual);
+        }
+        Number::NoWeight.at(draft.readings.len() - 1)
+    }),
+    // 14
+    ("one Wh too much periodised in an hour", |draft, random| {
+        let hour = random.below(draft.fixed.len());
+        crowded_hour(draft, random, hour);
+        Number::TooMuchPeriodised.at(hour)
+    }),
+    ("too much periodised over several hours", |draft, random| {
+        // Two hours of equal weight: 5 readings of 1,000,000,000 put 2,500,000,000 into each.
+        let hour = random.below(draft.fixed.len() - 1);
+        crowded_hour(draft, random, hour);
+        draft.fixed[hour + 1] = HourFlows {
+            hour: hour as u16 + 1,
+            ..draft.fixed[hour]
+        };
+        draft.readings = vec![reading_of(draft, random, hour, hour + 2, 1_000_000_000); 5];
+        Number::TooMuchPeriodised.at(hour)
+    }),
+    // 15
+    ("count one too large", |draft, _| {
+        let records = draft.at_end();
+        draft.end_count = Some(records as u32 + 1);
+        Number::WrongCount.at(records)
+    }),
+    ("count one too small", |draft, _| {
+        let records = draft.at_end();
+        draft.end_count = Some(records as u32 - 1);
+        Number::WrongCount.at(records)
+    }),
+    ("count far off", |draft, random| {
+        // Right in its lowest byte, or in its lowest two, is not right.
+        let records = draft.at_end();
+        let right = records as u32;
+        draft.end_count = Some(*random.pick(&[right + 256, right + 65_536, !right, right << 16]));
+        Number::WrongCount.at(records)
+    }),
+];
+
+/// A value outside its range: the one just outside, every other time, or one farther out.
+fn outside<T: Copy>(random: &mut Random, just: T, farther: &[T]) -> T {
+    if random.once_in(2) {
+        just
+    } else {
+        *random.pick(farther)
+    }
+}
+
+/// An hour field that is not the due one: a neighbour, beyond the range, or at random.
+fn other_hour(random: &mut Random, due: usize) -> u16 {
+    let due = due as u16;
+    let any = random.below(65_536) as u16;
+    let others = [due.wrapping_sub(1), due + 1, 745, 65_535, due + 256, any];
+    let others: Vec<u16> = others.into_iter().filter(|&hour| hour != due).collect();
+    *random.pick(&others)
+}
+
+/// Gives the draft a refixed series, equal to the fixed one, if it has none.
+fn have_refixed(draft: &mut Draft) {
+    if draft.refixed.is_empty() {
+        draft.refixed = draft.fixed.clone();
+    }
+}
+
+/// Changes a field of one hour, fixed or refixed, so that it is outside its range.
+fn flow_fault(
+    draft: &mut Draft,
+    random: &mut Random,
+    change: fn(&mut HourFlows, &mut Random),
+) -> Refusal {
+    let hour = random.below(draft.fixed.len());
+    if draft.refixed.is_empty() || random.once_in(2) {
+        change(&mut draft.fixed[hour], random);
+        Number::OutsideRange.at(draft.at_fixed(hour))
+    } else {
+        change(&mut draft.refixed[hour], random);
+        Number::OutsideRange.at(draft.at_refixed(hour))
+    }
+}
+
+fn too_large_flow(random: &mut Random) -> u64 {
+    outside(random, 8_000_000_001, &[1 << 63, u64::MAX])
+}
+
+/// "With status 0 a figure other than 0 is refused with 4": one figure in an hour that is otherwise a missing one.
+fn missing_with(
+    draft: &mut Draft,
+    random: &mut Random,
+    set_figure: fn(&mut HourFlows, i64),
+) -> Refusal {
+    let figure = *random.pick(&[1, 256, 1 << 32, -1]);
+    let hour = random.below(draft.fixed.len());
+    let mut flows = missing_hour(hour);
+    set_figure(&mut flows, figure);
+    if draft.refixed.is_empty() || random.once_in(2) {
+        draft.fixed[hour] = flows;
+        Number::OutsideRange.at(draft.at_fixed(hour))
+    } else {
+        draft.refixed[hour] = flows;
+        Number::OutsideRange.at(draft.at_refixed(hour))
+    }
+}
+
+fn missing_hour(hour: usize) -> HourFlows {
+    HourFlows {
+        status: STATUS_MISSING,
+        ..measured_hour(hour, 0)
+    }
+}
+
+/// An hour whose flows are in their ranges and whose residual is below 0.
+fn negative_hour(random: &mut Random, hour: usize) -> HourFlows {
+    match random.below(4) {
+        0 => HourFlows {
+            hourly_wh: 8_000_000_000,
+            flex_wh: 8_000_000_000,
+            ..measured_hour(hour, -8_000_000_000)
+        },
+        1 => random_hour(random, hour, -1),
+        _ => {
+            let residual = -1 - random.any_size(1_999_999_999) as i64;
+            random_hour(random, hour, residual)
+        }
+    }
+}
+
+/// An hour whose flows are in their ranges and whose residual is above its limit.
+fn too_large_hour(random: &mut Random, hour: usize) -> HourFlows {
+    // 2^32 and a little: what is left of it in 32 bits would be a good residual.
+    let net_supply_wh = outside(random, 2_000_000_001, &[(1 << 32) + 5, 8_000_000_000]);
+    let production_wh = *random.pick(&[0, 0, 8_000_000_000]);
+    HourFlows {
+        production_wh,
+        ..measured_hour(hour, net_supply_wh)
+    }
+}
+
+/// Load share of the first party and of the last; all others 0.
+fn set_shares(draft: &mut Draft, first_kwh: u64, last_kwh: u64) {
+    for party in &mut draft.parties {
+        party.load_share_kwh = 0;
+    }
+    let last = draft.parties.len() - 1;
+    draft.parties[last].load_share_kwh = last_kwh;
+    draft.parties[0].load_share_kwh = first_kwh;
+}
+
+/// A W so small that the curve number of this hour, and of no earlier one, is too large; its residual is within its limit.
+fn steep_curve(draft: &mut Draft, random: &mut Random, hour: usize) {
+    let share_sum = 1 + random.any_size(1_999_997);
+    set_shares(draft, share_sum, 0);
+    let most_wh = most_residual_wh(share_sum);
+    for earlier in 0..draft.fixed.len() {
+        let residual = random.between(0, most_wh);
+        draft.fixed[earlier] = random_hour(random, earlier, residual);
+    }
+    let above_wh = random.between(most_wh + 1, 2_000_000_000);
+    let residual = *random.pick(&[most_wh + 1, above_wh]);
+    draft.fixed[hour] = random_hour(random, hour, residual);
+}
+
+/// Gives one reading a span that is none; the function gets H and tells a and b.
+fn span_fault(
+    draft: &mut Draft,
+    random: &mut Random,
+    span: fn(usize, &mut Random) -> (usize, usize),
+) -> Refusal {
+    let reading = random.below(draft.readings.len());
+    let (a, b) = span(draft.fixed.len(), random);
+    draft.readings[reading].a = a as u16;
+    draft.readings[reading].b = b as u16;
+    Number::BadSpan.at(draft.at_reading(reading))
+}
+
+fn reading_of(draft: &Draft, random: &mut Random, a: usize, b: usize, e_wh: u32) -> Reading {
+    Reading {
+        party: random.below(draft.parties.len()) as u8,
+        a: a as u16,
+        b: b as u16,
+        e_wh,
+    }
+}
+
+/// Adds a last reading with a positive E over a random span, and makes all before it readings of 0, which need no weight.
+fn weightless_reading(draft: &mut Draft, random: &mut Random) -> Reading {
+    for reading in &mut draft.readings {
+        reading.e_wh = 0;
+    }
+    let a = random.below(draft.fixed.len());
+    let b = a + 1 + random.below(draft.fixed.len() - a);
+    let e_wh = 1 + random.any_size(999_999_999) as u32;
+    let reading = reading_of(draft, random, a, b, e_wh);
+    draft.readings.push(reading);
+    reading
+}
+
+/// One hour with readings of 2,000,000,001 Wh in all, and the weight that they need.
+fn crowded_hour(draft: &mut Draft, random: &mut Random, hour: usize) {
+    let most_wh = most_residual_wh(draft.share_sum_kwh().clamp(1, 4_000_000_000) as u64);
+    draft.fixed[hour] = random_hour(random, hour, most_wh);
+    draft.readings.clear();
+    for e_wh in [1_000_000_000, 1, 1_000_000_000] {
+        let reading = reading_of(draft, random, hour, hour + 1, e_wh);
+        draft.readings.push(reading);
+    }
+}
+
+// Faults of the bytes.
+
+fn refused(records: Vec<Vec<u8>>, number: Number, place: usize) -> (Vec<u8>, Aim) {
+    (records.concat(), Aim::Refused(number.at(place)))
+}
+
+/// Faults of the file's length and order, and pairs of faults of which the first is known.
+pub const BYTES_FAULTS: &[(&str, BytesFault)] = &[
+    // 1
+    ("empty file", |_, _| refused(vec![], Number::BrokenFile, 0)),
+    ("65,537 bytes", |draft, random| {
+        let mut bytes = draft.bytes();
+        bytes.resize(FILE_BYTES_MAX + 1, random.bits() as u8);
+        refused(vec![bytes], Number::BrokenFile, 0)
+    }),
+    ("a good month, but too long", |mut draft, random| {
+        while draft.bytes().len() <= FILE_BYTES_MAX {
+            let readings = (FILE_BYTES_MAX - draft.bytes().len()) / 10 + 1;
+            let nothing = reading_of(&draft, random, 0, 1, 0);
+            draft.readings.extend(vec![nothing; readings]);
+        }
+        refused(draft.records(), Number::BrokenFile, 0)
+    }),
+    ("far too long", |_, random| {
+        let length = random.between(FILE_BYTES_MAX as i64 + 1, 150_000) as usize;
+        refused(
+            vec![vec![random.bits() as u8; length]],
+            Number::BrokenFile,
+            0,
+        )
+    }),
+    ("body cut short", |draft, random| {
+        let mut records = draft.records();
+        let cut = random.below(records.len());
+        records.truncate(cut + 1);
+        let body = records[cut].len() - 1;
+        records[cut].truncate(1 + random.below(body));
+        refused(records, Number::BrokenFile, cut)
+    }),
+    ("cut after a kind", |draft, random| {
+        let mut records = draft.records();
+        let cut = random.below(records.len());
+        records.truncate(cut + 1);
+        records[cut].truncate(1);
+        refused(records, Number::BrokenFile, cut)
+    }),
+    ("cut between two records", |draft, random| {
+        let mut records = draft.records();
+        let complete = 1 + random.below(records.len() - 1);
+        records.truncate(complete);
+        refused(records, Number::BrokenFile, complete)
+    }),
+    ("no end record", |draft, _| {
+        let mut records = draft.records();
+        records.pop();
+        refused(records, Number::BrokenFile, draft.at_end())
+    }),
+    ("a byte after the end", |draft, random| {
+        let mut records = draft.records();
+        records.push(vec![*random.pick(&[0, 1, 4, 7, b'\n', 0xFF])]);
+        refused(records, Number::BrokenFile, draft.at_end() + 1)
+    }),
+    ("a record after the end", |draft, random| {
+        let mut records = draft.records();
+        let again = random.pick(&records).clone();
+        records.push(again);
+        refused(records, Number::BrokenFile, draft.at_end() + 1)
+    }),
+    ("a second end", |draft, _| {
+        let mut records = draft.records();
+        records.push(Record::End(draft.at_end() as u32 + 1).encode());
+        refused(records, Number::BrokenFile, draft.at_end() + 1)
+    }),
+    // 2
+    ("unknown kind", |draft, random| {
+        let mut records = draft.records();
+        let place = random.below(records.len());
+        records[place][0] = unknown_kind(random);
+        refused(records, Number::UnknownKind, place)
+    }),
+    ("unknown kind at the file's end", |draft, random| {
+        let mut records = draft.records();
+        let place = random.below(records.len());
+        records.truncate(place);
+        records.push(vec![unknown_kind(random)]);
+        refused(records, Number::UnknownKind, place)
+    }),
+    ("unknown record put in", |draft, random| {
+        let mut records = draft.records();
+        let place = random.below(records.len());
+        let (kind, length) = *random.pick(&[(0x08, 25), (0x09, 11), (0x0A, 3), (0x12, 34)]);
+        let mut unknown = vec![0; 1 + length];
+        unknown[0] = kind;
+        records.insert(place, unknown);
+        refused(records, Number::UnknownKind, place)
+    }),
+    // 3
+    ("no heading", |draft, _| {
+        let mut records = draft.records();
+        records.remove(0);
+        refused(records, Number::OutOfOrder, 0)
+    }),
+    ("a second heading", |draft, random| {
+        let mut records = draft.records();
+        let place = 1 + random.below(records.len() - 1);
+        records.insert(place, records[0].clone());
+        refused(records, Number::OutOfOrder, place)
+    }),
+    ("a party too few", |mut draft, random| {
+        let party = random.below(draft.parties.len());
+        draft.parties.remove(party);
+        refused(draft.records(), Number::OutOfOrder, draft.at_fixed(0))
+    }),
+    ("a party too many", |mut draft, _| {
+        let place = draft.at_fixed(0);
+        let mut another = draft.parties[0];
+        another.gln = with_check_digit(999_999_999_999);
+        draft.parties.push(another);
+        refused(draft.records(), Number::OutOfOrder, place)
+    }),
+    ("a fixed hour too few", |mut draft, random| {
+        let hour = random.below(draft.fixed.len());
+        draft.fixed.remove(hour);
+        refused(draft.records(), Number::OutOfOrder, draft.at_fixed(hour))
+    }),
+    ("a fixed hour too many", |mut draft, random| {
+        let hour = draft.fixed.len();
+        draft.fixed.push(random_hour(random, hour, 0));
+        refused(draft.records(), Number::OutOfOrder, draft.at_fixed(hour))
+    }),
+    ("a refixed hour too few", |mut draft, random| {
+        have_refixed(&mut draft);
+        let hour = random.below(draft.refixed.len());
+        draft.refixed.remove(hour);
+        refused(draft.records(), Number::OutOfOrder, draft.at_refixed(hour))
+    }),
+    ("a refixed hour too many", |mut draft, random| {
+        have_refixed(&mut draft);
+        let hour = draft.refixed.len();
+        draft.refixed.push(random_hour(random, hour, 0));
+        refused(draft.records(), Number::OutOfOrder, draft.at_refixed(hour))
+    }),
+    ("half a refixed series", |mut draft, random| {
+        have_refixed(&mut draft);
+        let hour = 1 + random.below(draft.refixed.len() - 1);
+        draft.refixed.truncate(hour);
+        refused(draft.records(), Number::OutOfOrder, draft.at_refixed(hour))
+    }),
+    ("a price too few", |mut draft, random| {
+        let hour = random.below(draft.prices.len());
+        draft.prices.remove(hour);
+        refused(draft.records(), Number::OutOfOrder, draft.at_price(hour))
+    }),
+    ("a price too many", |mut draft, _| {
+        let hour = draft.prices.len();
+        let mut another = draft.prices[0];
+        another.hour = hour as u16;
+        draft.prices.push(another);
+        refused(draft.records(), Number::OutOfOrder, draft.at_price(hour))
+    }),
+    ("no prices", |mut draft, _| {
+        draft.prices.clear();
+        refused(draft.records(), Number::OutOfOrder, draft.at_price(0))
+    }),
+    ("refixed hours after the prices", |mut draft, _| {
+        draft.refixed.clear();
+        let mut records = draft.records();
+        let place = draft.at_reading(0);
+        let late = Record::Refixed(draft.fixed[0]).encode();
+        records.insert(place, late);
+        refused(records, Number::OutOfOrder, place)
+    }),
+    ("a fixed hour marked as refixed", |draft, random| {
+        let mut records = draft.records();
+        let place = draft.at_fixed(random.below(draft.fixed.len()));
+        records[place][0] = REFIXED_HOUR;
+        refused(records, Number::OutOfOrder, place)
+    }),
+    ("a refixed hour marked as fixed", |mut draft, random| {
+        have_refixed(&mut draft);
+        let mut records = draft.records();
+        let place = draft.at_refixed(random.below(draft.refixed.len()));
+        records[place][0] = FIXED_HOUR;
+        refused(records, Number::OutOfOrder, place)
+    }),
+    ("an early end", |draft, random| {
+        let mut records = draft.records();
+        let place = random.below(draft.at_price(draft.prices.len()));
+        records.insert(place, Record::End(place as u32).encode());
+        refused(records, Number::OutOfOrder, place)
+    }),
+    ("an early end, and nothing after it", |draft, random| {
+        let mut records = draft.records();
+        let place = random.below(draft.at_price(draft.prices.len()));
+        records.truncate(place);
+        records.push(Record::End(place as u32).encode());
+        refused(records, Number::OutOfOrder, place)
+    }),
+    ("an early reading", |draft, random| {
+        let mut records = draft.records();
+        let place = random.below(draft.at_price(draft.prices.len()));
+        records.insert(place, records[draft.at_reading(0)].clone());
+        refused(records, Number::OutOfOrder, place)
+    }),
+    // Two faults in one record.
+    ("cut and out of order", |draft, random| {
+        let mut records = draft.records();
+        let place = 1 + random.below(records.len() - 1);
+        let mut heading = records[0].clone();
+        heading.truncate(1 + random.below(9));
+        records.truncate(place);
+        records.push(heading);
+        refused(records, Number::BrokenFile, place)
+    }),
+    ("heading out of order and out of range", |draft, random| {
+        let mut records = draft.records();
+        let place = 1 + random.below(records.len() - 1);
+        let heading = Heading {
+            area: 0,
+            ..draft.heading
+        };
+        records.insert(place, Record::Heading(heading).encode());
+        refused(records, Number::OutOfOrder, place)
+    }),
+    ("hour field and status", |mut draft, random| {
+        let hour = random.below(draft.fixed.len());
+        draft.fixed[hour].hour = other_hour(random, hour);
+        draft.fixed[hour].status = 3;
+        refused(draft.records(), Number::OutOfOrder, draft.at_fixed(hour))
+    }),
+    ("hour field and price", |mut draft, random| {
+        let hour = random.below(draft.prices.len());
+        draft.prices[hour].hour = other_hour(random, hour);
+        draft.prices[hour].price_ore = i32::MAX;
+        refused(draft.records(), Number::OutOfOrder, draft.at_price(hour))
+    }),
+    (
+        "a party too many, out of range, with a bad GLN",
+        |draft, _| {
+            let mut records = draft.records();
+            let another = Party {
+                gln: b"579000000000X",
+                load_share_kwh: u64::MAX,
+            };
+            records.insert(draft.at_fixed(0), Record::Party(another).encode());
+            refused(records, Number::OutOfOrder, draft.at_fixed(0))
+        },
+    ),
+    ("load share and GLN", |mut draft, random| {
+        let party = random.below(draft.parties.len());
+        draft.parties[party].load_share_kwh = 4_000_000_001;
+        draft.parties[party].gln[random.below(13)] = b'x';
+        refused(draft.records(), Number::OutsideRange, draft.at_party(party))
+    }),
+    ("party, span and E", |mut draft, random| {
+        let reading = random.below(draft.readings.len());
+        let party = draft.parties.len() as u8;
+        draft.readings[reading] = Reading {
+            party,
+            a: 1,
+            b: 1,
+            e_wh: 1_000_000_001,
+        };
+        refused(
+            draft.records(),
+            Number::OutsideRange,
+            draft.at_reading(reading),
+        )
+    }),
+    ("span and E", |mut draft, random| {
+        let reading = random.below(draft.readings.len());
+        let hours = draft.fixed.len();
+        draft.readings[reading] = reading_of(&draft, random, 0, hours + 1, u32::MAX);
+        refused(draft.records(), Number::BadSpan, draft.at_reading(reading))
+    }),
+    ("wrong count and bytes after", |mut draft, random| {
+        let place = draft.at_end();
+        draft.end_count = Some(place as u32 + 1);
+        let mut records = draft.records();
+        records.push(vec![random.bits() as u8; 1 + random.below(40)]);
+        refused(records, Number::WrongCount, place)
+    }),
+    ("an early end with a wrong count", |draft, random| {
+        let mut records = draft.records();
+        let place = random.below(draft.at_price(draft.prices.len()));
+        records.truncate(place);
+        records.push(Record::End(place as u32 + 1).encode());
+        records.push(vec![0xFF]);
+        refused(records, Number::OutOfOrder, place)
+    }),
+    // A fault of the file and one found after it, or two found after it.
+    ("W 0 and bytes after the end", |mut draft, random| {
+        set_shares(&mut draft, 0, 0);
+        let mut records = draft.records();
+        records.push(vec![random.bits() as u8]);
+        refused(records, Number::BrokenFile, draft.at_end() + 1)
+    }),
+    ("W too large and wrong count", |mut draft, _| {
+        set_shares(&mut draft, 4_000_000_000, 1);
+        draft.end_count = Some(0);
+        refused(draft.records(), Number::WrongCount, draft.at_end())
+    }),
+    ("W 0 and a figure with status 0", |mut draft, random| {
+        set_shares(&mut draft, 0, 0);
+        let refusal = missing_with(&mut draft, random, |flows, f| flows.net_supply_wh = f);
+        refused(draft.records(), refusal.number, refusal.place)
+    }),
+    ("W 0 and a missing hour", |mut draft, random| {
+        set_shares(&mut draft, 0, 0);
+        let hour = random.below(draft.fixed.len());
+        draft.fixed[hour] = missing_hour(hour);
+        refused(draft.records(), Number::BadShareSum, 0)
+    }),
+    (
+        "fixed too large late, refixed missing early",
+        |mut draft, random| {
+            have_refixed(&mut draft);
+            let last = draft.fixed.len() - 1;
+            draft.refixed[0] = missing_hour(0);
+            draft.fixed[last] = too_large_hour(random, last);
+            refused(draft.records(), Number::ResidualTooLarge, last)
+        },
+    ),
+    ("negative early, missing late", |mut draft, random| {
+        let last = draft.fixed.len() - 1;
+        draft.fixed[last] = missing_hour(last);
+        draft.fixed[last - 1] = negative_hour(random, last - 1);
+        refused(draft.records(), Number::NegativeResidual, last - 1)
+    }),
+    (
+        "curve number and a later refixed hour",
+        |mut draft, random| {
+            have_refixed(&mut draft);
+            let last = draft.fixed.len() - 1;
+            steep_curve(&mut draft, random, 0);
+            draft.refixed[last] = negative_hour(random, last);
+            refused(draft.records(), Number::NegativeResidual, last)
+        },
+    ),
+    (
+        "curve number and a reading without weight",
+        |mut draft, random| {
+            let last = draft.fixed.len() - 1;
+            draft.readings.clear();
+            steep_curve(&mut draft, random, last);
+            draft.fixed[0] = random_hour(random, 0, 0);
+            draft.readings = vec![reading_of(&draft, random, 0, 1, 5)];
+            refused(draft.records(), Number::CurveNumberTooLarge, last)
+        },
+    ),
+    (
+        "too much periodised and a reading without weight",
+        |mut draft, random| {
+            let last = draft.fixed.len() - 1;
+            crowded_hour(&mut draft, random, 0);
+            draft.fixed[last] = random_hour(random, last, 0);
+            let reading = reading_of(&draft, random, last, last + 1, 1);
+            draft.readings.push(reading);
+            refused(draft.records(), Number::NoWeight, 3)
+        },
+    ),
+];
+
+fn unknown_kind(random: &mut Random) -> u8 {
+    *random.pick(&[0x00, 0x08, 0x09, 0x0A, 0x0B, 0x12, 0x13, 0x80, 0x81, 0xFF])
+}
+
+// Random damage, and two or three faults at random.
+
+type RandomDamage = fn(Draft, &mut Random) -> Vec<u8>;
+
+/// Damages whose answer only the reader knows. The common ones stand here several times.
+pub const RANDOM_DAMAGES: &[(&str, RandomDamage)] = &[
+    ("two faults", two_faults),
+    ("flipped bytes", flipped_bytes),
+    ("two faults", two_faults),
+    ("two records swapped", swapped_records),
+    ("two faults", two_faults),
+    ("flipped bytes", flipped_bytes),
+    ("two faults", two_faults),
+    ("two neighbours swapped", swapped_neighbours),
+    ("two faults", two_faults),
+    ("fault of fields and of bytes", fields_and_bytes),
+    ("two faults", two_faults),
+    ("cut at random", |draft, random| {
+        let mut bytes = draft.bytes();
+        bytes.truncate(random.below(bytes.len()));
+        bytes
+    }),
+    ("two faults", two_faults),
+    ("lengthened", |draft, random| {
+        let mut bytes = draft.bytes();
+        let more = 1 + random.below(60);
+        bytes.extend((0..more).map(|_| random.below(10) as u8));
+        bytes
+    }),
+    ("two faults", two_faults),
+    ("lengthened inside", |draft, random| {
+        let mut bytes = draft.bytes();
+        bytes.insert(random.below(bytes.len()), random.bits() as u8);
+        bytes
+    }),
+    ("two faults", two_faults),
+    ("shortened inside", |draft, random| {
+        let mut bytes = draft.bytes();
+        bytes.remove(random.below(bytes.len()));
+        bytes
+    }),
+    ("fault of fields and of bytes", fields_and_bytes),
+    ("flipped bytes", flipped_bytes),
+    ("a record dropped, the count right", |draft, random| {
+        let mut records = draft.records();
+        records.remove(random.below(records.len() - 1));
+        recounted(records)
+    }),
+    ("a record doubled, the count right", |draft, random| {
+        let mut records = draft.records();
+        let place = random.below(records.len() - 1);
+        records.insert(place, records[place].clone());
+        recounted(records)
+    }),
+    ("a kind changed", |draft, random| {
+        let mut records = draft.records();
+        let place = random.below(records.len());
+        records[place][0] = random.below(9) as u8;
+        records.concat()
+    }),
+    ("a body of random bytes", |draft, random| {
+        let mut records = draft.records();
+        let place = random.below(records.len());
+        for byte in &mut records[place][1..] {
+            *byte = random.bits() as u8;
+        }
+        records.concat()
+    }),
+    ("random bytes", |_, random| {
+        let length = random.below(200);
+        (0..length).map(|_| random.below(12) as u8).collect()
+    }),
+    ("random bytes after a heading", |draft, random| {
+        let mut bytes = Record::Heading(draft.heading).encode();
+        bytes.extend((0..random.below(200)).map(|_| random.below(8) as u8));
+        bytes
+    }),
+    ("readings at random", |mut draft, random| {
+        // Large readings over short spans: some months take them, some give 13 or 14.
+        for _ in 0..6 {
+            let a = random.below(draft.fixed.len());
+            let e_wh = random.any_size(1_000_000_000) as u32;
+            let reading = reading_of(&draft, random, a, a + 1, e_wh);
+            draft.readings.push(reading);
+        }
+        draft.bytes()
+    }),
+    ("readings added, the count left", |mut draft, random| {
+        draft.end_count = Some(draft.at_end() as u32);
+        let readings = random.below(2);
+        add_readings(random, &mut draft, readings);
+        draft.bytes()
+    }),
+];
+
+/// Two faults of the fields, in one record or in two, of one stage or of two.
+fn two_faults(mut draft: Draft, random: &mut Random) -> Vec<u8> {
+    for _ in 0..2 {
+        let (_, fault) = random.pick(DRAFT_FAULTS);
+        fault(&mut draft, random);
+    }
+    draft.bytes()
+}
+
+fn fields_and_bytes(mut draft: Draft, random: &mut Random) -> Vec<u8> {
+    let (_, fault) = random.pick(DRAFT_FAULTS);
+    fault(&mut draft, random);
+    let (_, fault) = random.pick(BYTES_FAULTS);
+    fault(draft, random).0
+}
+
+fn swapped_records(draft: Draft, random: &mut Random) -> Vec<u8> {
+    let mut records = draft.records();
+    let (one, other) = (random.below(records.len()), random.below(records.len()));
+    records.swap(one, other);
+    records.concat()
+}
+
+fn swapped_neighbours(draft: Draft, random: &mut Random) -> Vec<u8> {
+    let mut records = draft.records();
+    let place = random.below(records.len() - 1);
+    records.swap(place, place + 1);
+    records.concat()
+}
+
+/// One to three bits changed, anywhere.
+fn flipped_bytes(draft: Draft, random: &mut Random) -> Vec<u8> {
+    let mut bytes = draft.bytes();
+    for _ in 0..1 + random.below(3) {
+        let place = random.below(bytes.len());
+        bytes[place] ^= 1 << random.below(8);
+    }
+    bytes
+}
+
+/// The records with the last of them, the end, counting those before it.
+fn recounted(mut records: Vec<Vec<u8>>) -> Vec<u8> {
+    records.pop();
+    records.push(Record::End(records.len() as u32).encode());
+    records.concat()
+}

@@ -1,0 +1,232 @@
+//! The stored examples: S1 of 01, a full month with realistic figures, and a month with a silent hour.
+
+use crate::draft::{measured_hour, prices_of, Draft, DraftParty};
+use crate::gln::with_check_digit;
+use crate::limits::{STATUS_ESTIMATED, STATUS_MEASURED, STATUS_MISSING};
+use crate::random::Random;
+use crate::record::{Heading, HourFlows, Reading};
+
+/// The names of the examples.
+pub const NAMES: [&str; 3] = ["s1", "full", "silent"];
+
+/// The month file of an example; None for an unknown name.
+pub fn example(name: &str) -> Option<Vec<u8>> {
+    match name {
+        "s1" => Some(s1().bytes()),
+        "full" => Some(full().bytes()),
+        "silent" => Some(silent().bytes()),
+        _ => None,
+    }
+}
+
+/// "Input S1, the example of H2 6.3". The GLNs are those of its output.
+pub fn s1() -> Draft {
+    let shares_kwh = [1_500_000, 6_000_000, 2_500_000];
+    let fixed_wh = [40_000_000, 50_000_000, 40_000_000];
+    let refixed_wh = [39_000_000, 48_000_000, 39_000_000];
+    let readings_wh = [
+        [7_800_000, 9_800_000, 10_000_000],
+        [20_100_000, 25_100_000, 17_900_000],
+        [10_000_000, 12_500_000, 10_000_000],
+    ];
+    let series = |residuals: [i64; 3]| (0..3).map(|h| measured_hour(h, residuals[h])).collect();
+    let one_hour_reading = |party: usize, hour: usize| Reading {
+        party: party as u8,
+        a: hour as u16,
+        b: hour as u16 + 1,
+        e_wh: readings_wh[party][hour],
+    };
+    Draft {
+        heading: Heading {
+            area: 7,
+            year: 2016,
+            month: 4,
+            hours: 3,
+            parties: 3,
+            carrier: 2,
+        },
+        parties: (0..3)
+            .map(|party| DraftParty {
+                gln: with_check_digit(party as u64 + 1),
+                load_share_kwh: shares_kwh[party],
+            })
+            .collect(),
+        fixed: series(fixed_wh),
+        refixed: series(refixed_wh),
+        prices: prices_of([29_000, 33_000, 30_000]),
+        readings: (0..9).map(|n| one_hour_reading(n / 3, n % 3)).collect(),
+        end_count: None,
+    }
+}
+
+/// May 2016 in a made-up grid area: 744 hours, 40 parties.
+pub fn full() -> Draft {
+    realistic_month(5, 744, 40)
+}
+
+/// September 2016 in the same area, 12 parties; the exchange meters were silent in hour 417, at fixation and after.
+pub fn silent() -> Draft {
+    let mut month = realistic_month(9, 720, 12);
+    let silent_hour = HourFlows {
+        status: STATUS_MISSING,
+        ..measured_hour(417, 0)
+    };
+    month.fixed[417] = silent_hour;
+    month.refixed[417] = silent_hour;
+    month
+}
+
+/// The residual over a day, in thousandths of the mean.
+const DAILY_PROFILE: [i64; 24] = [
+    720, 680, 660, 650, 670, 740, 900, 1060, 1080, 1050, 1020, 1010, 1040, 1000, 980, 990, 1080,
+    1290, 1380, 1330, 1240, 1140, 980, 830,
+];
+
+/// Load shares for the whole area, kWh per year.
+const AREA_KWH: i64 = 1_500_000_000;
+
+/// A month of 2016 in area 900: shares of very different sizes (one 0, two equal), a daily profile, wind that turns the
+/// net supply negative, estimated hours, prices with a few negative hours, a refixed series slightly off the fixed one,
+/// and readings over spans of days that come to some 97 per cent of the residual.
+fn realistic_month(month: u8, hours: usize, parties: usize) -> Draft {
+    let random = &mut Random::of_file(2016, u64::from(month));
+    let carrier = 4;
+    let mut draft = Draft {
+        heading: Heading {
+            area: 900,
+            year: 2016,
+            month,
+            hours: hours as u16,
+            parties: parties as u8,
+            carrier: carrier as u8,
+        },
+        parties: realistic_parties(random, parties),
+        fixed: Vec::new(),
+        refixed: Vec::new(),
+        prices: Vec::new(),
+        readings: Vec::new(),
+        end_count: None,
+    };
+    let mut prices_ore = Vec::new();
+    let mut residuals_wh = Vec::new();
+    let mean_wh = draft.share_sum_kwh() as i64 * 1000 / 8760;
+    for hour in 0..hours {
+        let weekend = if hour / 24 % 7 >= 5 { 920 } else { 1000 };
+        let noise = random.between(970, 1030);
+        let residual_wh = mean_wh / 1000 * DAILY_PROFILE[hour % 24] / 1000 * weekend / 1000 * noise;
+        let windy = hour / 24 % 5 == 3;
+        let production_wh = if windy {
+            random.between(300_000_000, 420_000_000)
+        } else {
+            random.between(20_000_000, 110_000_000)
+        };
+        let fixed = realistic_hour(random, hour, residual_wh, production_wh);
+        let correction_wh = if random.once_in(6) {
+            residual_wh * random.between(-12, 8) / 1000
+        } else {
+            0
+        };
+        let refixed_status = if fixed.status == STATUS_ESTIMATED && random.once_in(3) {
+            STATUS_ESTIMATED
+        } else {
+            STATUS_MEASURED
+        };
+        draft.fixed.push(fixed);
+        draft.refixed.push(HourFlows {
+            status: refixed_status,
+            net_supply_wh: fixed.net_supply_wh + correction_wh,
+            ..fixed
+        });
+        residuals_wh.push(residual_wh + correction_wh);
+        prices_ore.push(realistic_price(random, hour, windy));
+    }
+    draft.prices = prices_of(prices_ore);
+    draft.readings = realistic_readings(random, &draft.parties, carrier, &residuals_wh);
+    draft
+}
+
+/// Made-up suppliers: the first twelve digits of their GLNs are 579000000001 and on.
+fn realistic_parties(random: &mut Random, parties: usize) -> Vec<DraftParty> {
+    let weights: Vec<i64> = (0..parties)
+        .map(|party| random.between(80, 120) * 100 / (3 + party as i64))
+        .collect();
+    let all_weights: i64 = weights.iter().sum();
+    let mut drafted: Vec<DraftParty> = (0..parties)
+        .map(|party| DraftParty {
+            gln: with_check_digit(579_000_000_001 + party as u64),
+            load_share_kwh: (AREA_KWH / all_weights * weights[party]) as u64,
+        })
+        .collect();
+    drafted[7].load_share_kwh = drafted[6].load_share_kwh;
+    drafted[parties - 1].load_share_kwh = 0;
+    drafted
+}
+
+fn realistic_hour(
+    random: &mut Random,
+    hour: usize,
+    residual_wh: i64,
+    production_wh: i64,
+) -> HourFlows {
+    let hourly_wh = random.between(110_000_000, 150_000_000);
+    let flex_wh = random.between(4_000_000, 9_000_000);
+    HourFlows {
+        hour: hour as u16,
+        status: if random.once_in(40) {
+            STATUS_ESTIMATED
+        } else {
+            STATUS_MEASURED
+        },
+        net_supply_wh: residual_wh - production_wh + hourly_wh + flex_wh,
+        production_wh: production_wh as u64,
+        hourly_wh: hourly_wh as u64,
+        flex_wh: flex_wh as u64,
+    }
+}
+
+/// Øre per MWh: some 200 to 600 DKK, following the profile; below zero in a few windy nights.
+fn realistic_price(random: &mut Random, hour: usize, windy: bool) -> i32 {
+    if windy && hour % 24 < 5 && random.once_in(3) {
+        return random.between(-4_500, -100) as i32;
+    }
+    let profile = DAILY_PROFILE[hour % 24] as i32;
+    let level = if windy { 23_000 } else { 34_000 };
+    level * profile / 1000 + random.between(-2_500, 9_000) as i32
+}
+
+/// Each party's metering points, in as many groups as keep a group's E below its limit. A group is read at the borders
+/// of a span of hours, and has somewhat more or less than the party's share of the residual there.
+fn realistic_readings(
+    random: &mut Random,
+    parties: &[DraftParty],
+    carrier: usize,
+    residuals_wh: &[i64],
+) -> Vec<Reading> {
+    let hours = residuals_wh.len();
+    let share_sum: i128 = parties.iter().map(|p| i128::from(p.load_share_kwh)).sum();
+    let part_wh = |party: usize, a: usize, b: usize| {
+        let span_wh: i128 = residuals_wh[a..b].iter().map(|&wh| i128::from(wh)).sum();
+        span_wh * i128::from(parties[party].load_share_kwh) / share_sum
+    };
+    let mut readings = Vec::new();
+    for party in 0..parties.len() {
+        // The carrier's share is in good part the grid loss itself, which nobody reads.
+        let read_per_mille = if party == carrier {
+            560
+        } else {
+            random.between(960, 1035)
+        };
+        let spans = 4 + random.below(5) + (part_wh(party, 0, hours) / 700_000_000) as usize;
+        for span in 0..spans {
+            let (a, b) = (span * hours / spans, (span + 1) * hours / spans);
+            let drift = i128::from(random.between(-15, 15) + read_per_mille);
+            readings.push(Reading {
+                party: party as u8,
+                a: a as u16,
+                b: b as u16,
+                e_wh: (part_wh(party, a, b) * drift / 1000) as u32,
+            });
+        }
+    }
+    readings
+}

@@ -1,0 +1,46 @@
+//! The independent second program.
+//!
+//! It is written from document 01 ("Exact scope and rules") and Regulation H2, version 5.11, and from nothing else,
+//! with 128-bit arithmetic straight from the definitions. It judges whatever the main program answers.
+//!
+//! | module | renders of 01 |
+//! |---|---|
+//! | `limits` | "Numbers that bound it" |
+//! | `refusal` | "Refusal numbers" |
+//! | `gln` | the check digit (GS1) |
+//! | `record` | one record: body lengths, fields, reading and writing it alone |
+//! | `month_file` | a whole file, record by record |
+//! | `residual` | "From flows to the curve" |
+//! | `distribution` | "Distributed consumption" |
+//! | `periodisation` | "Periodised consumption" |
+//! | `reconciliation` | "Reconciliation", one hour; the invoice figure |
+//! | `month` | a whole month: the order of refusals, the hours' figures, the month sums |
+//! | `statement` | "The statement program" |
+//!
+//! The rest makes files to judge by: `random` (seeded numbers), `draft` (a month that can be edited), `make` and
+//! `damage` (months of every shape and with every fault), `examples` (the stored ones) and `check` (comparing another
+//! program with this one).
+//!
+//! Every public service (`residual::residual`, `residual::curve`, `distribution::distribution`,
+//! `periodisation::periodisation`, `reconciliation::reconciliation`, `reconciliation::invoice_ore`, `record::read_alone`,
+//! `record::write`, `record::write_plain`, `month::settle`, `month::month_sums`) checks its own input, refuses as 01 says,
+//! and has an answer for every machine value. A service that 01 lends an output takes its length and hands back the
+//! figures, so that refused calls have nothing to write into.
+
+pub mod check;
+pub mod damage;
+pub mod distribution;
+pub mod draft;
+pub mod examples;
+pub mod gln;
+pub mod limits;
+pub mod make;
+pub mod month;
+pub mod month_file;
+pub mod periodisation;
+pub mod random;
+pub mod reconciliation;
+pub mod record;
+pub mod refusal;
+pub mod residual;
+pub mod statement;

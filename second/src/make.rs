@@ -1,0 +1,685 @@
+//! The maker of month files: valid ones of every shape, here, and damaged ones (`damage`), each with its expected output.
+//!
+//! Seed and file number alone decide a file. Every third file is valid; the shapes and the damages are gone through in
+//! turn, their details are random.
+
+use std::collections::BTreeSet;
+use std::fmt;
+use std::fs;
+use std::io;
+use std::ops::RangeInclusive;
+use std::path::Path;
+
+use crate::damage;
+use crate::draft::{measured_hour, prices_of, Draft, DraftParty};
+use crate::gln::{with_check_digit, Gln};
+use crate::limits::{
+    CURVE_FACTOR, CURVE_NUMBER_MAX, FILE_BYTES_MAX, READING_WH_MAX, RESIDUAL_WH_MAX,
+    STATUS_ESTIMATED, STATUS_MEASURED,
+};
+use crate::month::settle;
+use crate::periodisation::periodised_wh;
+use crate::random::Random;
+use crate::record::{Heading, HourFlows, Reading};
+use crate::refusal::Refusal;
+use crate::residual::{curve_number, residual_wh};
+use crate::statement::statement;
+
+/// What the maker of a file meant it to give. The expected output comes from the file itself; the tests hold the two
+/// against each other.
+#[derive(Clone, Copy, Debug, PartialEq, Eq)]
+pub enum Aim {
+    Accepted,
+    Refused(Refusal),
+    /// Random damage, or several faults of which the first is not foretold.
+    Anything,
+}
+
+/// A file of a seed.
+pub struct MadeFile {
+    pub number: u64,
+    /// The shape or the damage.
+    pub name: &'static str,
+    pub bytes: Vec<u8>,
+    pub aim: Aim,
+}
+
+impl MadeFile {
+    /// What the statement program must print for it.
+    pub fn expected(&self) -> String {
+        statement(&self.bytes)
+    }
+}
+
+/// The file of this number of a seed.
+pub fn file(seed: u64, number: u64) -> MadeFile {
+    let random = &mut Random::of_file(seed, number);
+    let valid_before = number.div_ceil(3);
+    let (name, bytes, aim) = if number.is_multiple_of(3) {
+        let (name, shape) = SHAPES[(number / 3) as usize % SHAPES.len()];
+        (name, shape(random).bytes(), Aim::Accepted)
+    } else {
+        damage::damaged((number - valid_before) as usize, random)
+    };
+    MadeFile {
+        number,
+        name,
+        bytes,
+        aim,
+    }
+}
+
+/// The first so many files of a seed.
+pub fn files(seed: u64, count: u64) -> impl Iterator<Item = MadeFile> {
+    (0..count).map(move |number| file(seed, number))
+}
+
+/// Writes the files of a seed as NNNNNNN.month and their expected outputs as NNNNNNN.expected.
+pub fn write_files(seed: u64, count: u64, directory: &Path) -> io::Result<Tally> {
+    fs::create_dir_all(directory)?;
+    let mut tally = Tally::default();
+    for made in files(seed, count) {
+        let path = directory.join(format!("{:07}.month", made.number));
+        fs::write(&path, &made.bytes)?;
+        fs::write(path.with_extension("expected"), made.expected())?;
+        tally.count(&made.bytes);
+    }
+    Ok(tally)
+}
+
+/// How often files were accepted, and how often refused with each number.
+#[derive(Default)]
+pub struct Tally {
+    pub accepted: u64,
+    /// By refusal number; a file gives 1 to 15.
+    pub refused: [u64; 16],
+}
+
+impl Tally {
+    pub fn count(&mut self, file: &[u8]) {
+        match settle(file) {
+            Ok(_) => self.accepted += 1,
+            Err(refusal) => self.refused[refusal.number as usize] += 1,
+        }
+    }
+
+    /// Fails, naming them, if some of the refusals 1 to 15 did not occur.
+    pub fn complete(&self) -> Result<(), String> {
+        let numbers = 1..self.refused.len();
+        let missing: Vec<String> = numbers
+            .filter(|&number| self.refused[number] == 0)
+            .map(|number| number.to_string())
+            .collect();
+        if missing.is_empty() {
+            Ok(())
+        } else {
+            Err(format!(
+                "refusals that did not occur: {}",
+                missing.join(", ")
+            ))
+        }
+    }
+}
+
+impl fmt::Display for Tally {
+    fn fmt(&self, out: &mut fmt::Formatter) -> fmt::Result {
+        for (number, count) in self.refused.iter().enumerate().skip(1) {
+            writeln!(out, "refused {number}: {count}")?;
+        }
+        writeln!(out, "accepted: {}", self.accepted)
+    }
+}
+
+type Shape = fn(&mut Random) -> Draft;
+
+/// The valid shapes, in the order in which they are made.
+pub const SHAPES: &[(&str, Shape)] = &[
+    ("small", |random| small_month(random, false)),
+    ("small, refixed", |random| small_month(random, true)),
+    ("one hour, one party", |random| {
+        let refixed = random.once_in(2);
+        month(random, 1, 1, refixed, 2)
+    }),
+    ("745 hours, 64 parties", |random| {
+        let readings = random.below(400);
+        month(random, 745, 64, false, readings)
+    }),
+    ("745 hours, 64 parties, refixed", |random| {
+        let readings = random.below(500);
+        month(random, 745, 64, true, readings)
+    }),
+    ("a month of 28 to 31 days", |random| {
+        let hours = *random.pick(&[671, 672, 696, 719, 720, 721, 743, 744, 745]);
+        let (parties, refixed) = (10 + random.below(30), random.once_in(2));
+        month(random, hours, parties, refixed, 100)
+    }),
+    ("spans of real zeros", real_zeros),
+    ("no consumption at all", no_consumption),
+    ("estimated hours", estimated_hours),
+    ("zero shares", |random| {
+        let parties = 2 + random.below(6);
+        let mut shares = random_shares(random, parties);
+        for _ in 0..parties - 1 {
+            let party = random.below(parties);
+            if shares.iter().sum::<u64>() > shares[party] {
+                shares[party] = 0;
+            }
+        }
+        small_month_of(random, shares)
+    }),
+    ("equal shares", |random| {
+        let parties = 2 + random.below(9);
+        let share = 1 + random.any_size(4_000_000_000 / parties as u64 - 1);
+        small_month_of(random, vec![share; parties])
+    }),
+    ("W at its upper limit", |random| {
+        let parties = 1 + random.below(6);
+        let shares = shares_of_sum(random, parties, 4_000_000_000);
+        small_month_of(random, shares)
+    }),
+    ("W 1", |random| {
+        let mut shares = vec![0; 1 + random.below(4)];
+        let party = random.below(shares.len());
+        shares[party] = 1;
+        small_month_of(random, shares)
+    }),
+    ("negative prices", |random| {
+        let mut draft = small_month(random, true);
+        for price in &mut draft.prices {
+            price.price_ore = -1 - random.any_size(4_999_999) as i32;
+        }
+        draft
+    }),
+    ("prices at their limits", |random| {
+        let mut draft = small_month(random, true);
+        for price in &mut draft.prices {
+            price.price_ore = *random.pick(&[-5_000_000, 5_000_000]);
+        }
+        draft
+    }),
+    ("negative net supply", negative_net_supply),
+    ("flows at their limits", flows_at_limits),
+    ("many overlapping readings", |random| {
+        let (parties, readings) = (1 + random.below(8), 500 + random.below(2_600));
+        month(random, 745, parties, false, readings)
+    }),
+    ("E 0 over zero weights", nothing_over_zero_weights),
+    ("E at its limit", |random| {
+        let mut draft = month_of_residual(random, 2_000_000_000, false);
+        let hours = draft.fixed.len();
+        add_reading(random, &mut draft, 0, hours, READING_WH_MAX as u32);
+        add_reading(random, &mut draft, 0, 1, READING_WH_MAX as u32);
+        draft
+    }),
+    ("residual at its limit", |random| {
+        let refixed = random.once_in(2);
+        let mut draft = month_of_residual(random, 2_000_000_000, refixed);
+        add_readings(random, &mut draft, 4);
+        draft
+    }),
+    ("curve number at its limit", curve_number_at_limit),
+    ("2,000,000,000 periodised in an hour", |random| {
+        let mut draft = month_of_residual(random, 1_500_000_000, false);
+        let hour = random.below(draft.fixed.len());
+        add_reading(random, &mut draft, hour, hour + 1, READING_WH_MAX as u32);
+        add_reading(random, &mut draft, hour, hour + 1, READING_WH_MAX as u32);
+        draft
+    }),
+    ("65,536 bytes", longest_file),
+    ("heading at its limits", |random| {
+        let mut draft = small_month(random, true);
+        draft.heading.area = *random.pick(&[1, 99, 100, 999]);
+        draft.heading.year = *random.pick(&[2000, 2099]);
+        draft.heading.month = *random.pick(&[1, 9, 10, 12]);
+        draft.heading.carrier = *random.pick(&[0, draft.heading.parties - 1]);
+        draft
+    }),
+    ("no readings", |random| {
+        let mut draft = small_month(random, true);
+        draft.readings.clear();
+        draft
+    }),
+    ("GLNs at their limits", |random| {
+        let mut draft = month(random, 2, 5, false, 3);
+        draft.parties[0].gln = with_check_digit(0);
+        draft.parties[1].gln = with_check_digit(1);
+        draft.parties[3].gln = with_check_digit(999_999_999_998);
+        draft.parties[4].gln = with_check_digit(999_999_999_999);
+        draft
+    }),
+    ("positive residuals, curve numbers 0", |random| {
+        let mut draft = month_of_shares(random, 6, vec![4_000_000_000, 0], false);
+        set_residuals(random, &mut draft.fixed, 1..=3_999);
+        add_readings(random, &mut draft, 3);
+        draft
+    }),
+    ("negative grid loss", |random| {
+        let mut draft = month_of_residual(random, 2_000_000_000, true);
+        set_residuals(random, &mut draft.refixed, 0..=1_000);
+        add_readings(random, &mut draft, 6);
+        draft
+    }),
+    ("ties and small residuals", |random| {
+        let parties = 2 + random.below(10);
+        let shares = (0..parties).map(|_| *random.pick(&[0, 1, 2, 2, 6, 6]));
+        let mut shares: Vec<u64> = shares.collect();
+        shares[parties / 2] = 6;
+        let hours = 10 + random.below(40);
+        let mut draft = month_of_shares(random, hours, shares, false);
+        set_residuals(random, &mut draft.fixed, 0..=13);
+        add_readings(random, &mut draft, 5);
+        draft
+    }),
+    ("amounts of half an øre", |random| {
+        let shares = shares_of_sum(random, 3, 9);
+        let mut draft = month_of_shares(random, 3, shares, true);
+        set_residuals(random, &mut draft.fixed, 1_000..=2_000);
+        add_readings(random, &mut draft, 3);
+        // Any difference at these prices is a whole number of half øre.
+        for price in &mut draft.prices {
+            price.price_ore = *random.pick(&[500_000, -500_000, 1_500_000]);
+        }
+        draft
+    }),
+    ("largest sums", |random| {
+        let shares = shares_of_sum(random, 64, 4_000_000_000);
+        let mut draft = month_of_shares(random, 745, shares, false);
+        set_residuals(random, &mut draft.fixed, 2_000_000_000..=2_000_000_000);
+        add_readings(random, &mut draft, 60);
+        draft
+    }),
+    ("largest amounts", largest_amounts),
+    ("745 hours, one party", |random| {
+        let refixed = random.once_in(2);
+        month(random, 745, 1, refixed, 30)
+    }),
+];
+
+/// A month of random figures, accepted by its making.
+pub fn month(
+    random: &mut Random,
+    hours: usize,
+    parties: usize,
+    refixed: bool,
+    readings: usize,
+) -> Draft {
+    let shares = random_shares(random, parties);
+    let mut draft = month_of_shares(random, hours, shares, refixed);
+    add_readings(random, &mut draft, readings);
+    draft
+}
+
+fn small_month(random: &mut Random, refixed: bool) -> Draft {
+    let (hours, parties, readings) = (1 + random.below(6), 1 + random.below(5), random.below(7));
+    month(random, hours, parties, refixed, readings)
+}
+
+fn small_month_of(random: &mut Random, shares_kwh: Vec<u64>) -> Draft {
+    let (hours, refixed) = (1 + random.below(6), random.once_in(2));
+    let mut draft = month_of_shares(random, hours, shares_kwh, refixed);
+    add_readings(random, &mut draft, 4);
+    draft
+}
+
+/// A month without readings, of these load shares.
+fn month_of_shares(
+    random: &mut Random,
+    hours: usize,
+    shares_kwh: Vec<u64>,
+    refixed: bool,
+) -> Draft {
+    let share_sum: u64 = shares_kwh.iter().sum();
+    let glns = rising_glns(random, shares_kwh.len());
+    let most_fixed = most_residual_wh(share_sum);
+    // Once in a while the residuals are all small, so that remainders decide.
+    let scale = random.any_size(most_fixed as u64) as i64;
+    let highest = *random.pick(&[most_fixed, scale, most_fixed / 2]);
+    let series = |random: &mut Random, highest: i64| -> Vec<HourFlows> {
+        let hours = 0..hours;
+        hours
+            .map(|hour| {
+                let residual = random.between(0, highest);
+                random_hour(random, hour, residual)
+            })
+            .collect()
+    };
+    Draft {
+        heading: Heading {
+            area: random.between(1, 999) as u16,
+            year: random.between(2000, 2099) as u16,
+            month: random.between(1, 12) as u8,
+            hours: hours as u16,
+            parties: shares_kwh.len() as u8,
+            carrier: random.below(shares_kwh.len()) as u8,
+        },
+        parties: glns
+            .into_iter()
+            .zip(shares_kwh)
+            .map(|(gln, load_share_kwh)| DraftParty {
+                gln,
+                load_share_kwh,
+            })
+            .collect(),
+        fixed: series(random, highest),
+        refixed: if refixed {
+            // The curve does not bound the refixed series.
+            let highest = if random.once_in(4) {
+                RESIDUAL_WH_MAX as i64
+            } else {
+                highest
+            };
+            series(random, highest)
+        } else {
+            Vec::new()
+        },
+        prices: prices_of((0..hours).map(|_| random.between(-1_000_000, 5_000_000) as i32)),
+        readings: Vec::new(),
+        end_count: None,
+    }
+}
+
+/// A small month whose every fixed hour has this residual, and W so large that the curve numbers are well in their limit.
+fn month_of_residual(random: &mut Random, residual_wh: i64, refixed: bool) -> Draft {
+    let parties = 1 + random.below(5);
+    let share_sum = random.between(2_000_000, 4_000_000_000) as u64;
+    let shares = shares_of_sum(random, parties, share_sum);
+    let hours = 1 + random.below(5);
+    let mut draft = month_of_shares(random, hours, shares, refixed);
+    for series in [&mut draft.fixed, &mut draft.refixed] {
+        set_residuals(random, series, residual_wh..=residual_wh);
+    }
+    draft
+}
+
+/// Gives every hour of a series new flows with a residual from this range.
+fn set_residuals(random: &mut Random, series: &mut [HourFlows], range_wh: RangeInclusive<i64>) {
+    for flows in series {
+        let residual = random.between(*range_wh.start(), *range_wh.end());
+        *flows = random_hour(random, usize::from(flows.hour), residual);
+    }
+}
+
+/// So many different GLNs in rising order.
+fn rising_glns(random: &mut Random, count: usize) -> Vec<Gln> {
+    let mut first_twelve = BTreeSet::new();
+    while first_twelve.len() < count {
+        first_twelve.insert(random.below(1_000_000_000_000) as u64);
+    }
+    first_twelve.into_iter().map(with_check_digit).collect()
+}
+
+/// Load shares of all sizes, some 0, with W in its limits.
+fn random_shares(random: &mut Random, parties: usize) -> Vec<u64> {
+    let highest = 4_000_000_000 / parties as u64;
+    let mut shares: Vec<u64> = (0..parties)
+        .map(|_| match random.below(4) {
+            0 => random.any_size(highest),
+            _ => random.below(highest as usize) as u64,
+        })
+        .collect();
+    if shares.iter().all(|&share| share == 0) {
+        shares[0] = 1;
+    }
+    shares
+}
+
+/// Random load shares that add up to this.
+fn shares_of_sum(random: &mut Random, parties: usize, sum: u64) -> Vec<u64> {
+    let mut borders: Vec<u64> = (1..parties)
+        .map(|_| random.below(sum as usize + 1) as u64)
+        .collect();
+    borders.sort_unstable();
+    borders.push(sum);
+    let mut before = 0;
+    borders
+        .into_iter()
+        .map(|border| border - std::mem::replace(&mut before, border))
+        .collect()
+}
+
+/// The largest fixed residual that W lets pass: within its own limit, and its curve number within that of the curve.
+pub fn most_residual_wh(share_sum_kwh: u64) -> i64 {
+    // residual x 1,000,000 / W rounded down is at most the limit exactly when residual x 1,000,000 < (limit + 1) x W.
+    let by_curve =
+        ((CURVE_NUMBER_MAX + 1) * u128::from(share_sum_kwh)).saturating_sub(1) / CURVE_FACTOR;
+    by_curve.min(RESIDUAL_WH_MAX as u128) as i64
+}
+
+/// An hour with random flows that come to this residual, from -2,000,000,000 up; measured, or now and then estimated.
+pub fn random_hour(random: &mut Random, hour: usize, residual_wh: i64) -> HourFlows {
+    let production_wh = random.any_size(6_000_000_000);
+    let hourly_wh = random.any_size(2_000_000_000);
+    let flex_wh = random.any_size(2_000_000_000);
+    HourFlows {
+        hour: hour as u16,
+        status: if random.once_in(8) {
+            STATUS_ESTIMATED
+        } else {
+            STATUS_MEASURED
+        },
+        net_supply_wh: residual_wh - production_wh as i64 + hourly_wh as i64 + flex_wh as i64,
+        production_wh,
+        hourly_wh,
+        flex_wh,
+    }
+}
+
+/// Adds random readings, overlapping as they fall, each with an E that the curve and the hours' limit still take.
+pub fn add_readings(random: &mut Random, draft: &mut Draft, count: usize) {
+    let curve = curve(draft);
+    let mut room_wh = vec![2_000_000_000u64; curve.len()];
+    for _ in 0..count {
+        let a = random.below(curve.len());
+        let b = random.between(a as i64 + 1, curve.len() as i64) as usize;
+        let wanted_wh = match random.below(8) {
+            0 => 0,
+            1 => READING_WH_MAX,
+            _ => random.any_size(READING_WH_MAX),
+        };
+        let e_wh = fitting_e_wh(wanted_wh, &curve[a..b], &mut room_wh[a..b]);
+        add_reading(random, draft, a, b, e_wh as u32);
+    }
+}
+
+/// Adds a reading of a random party.
+fn add_reading(random: &mut Random, draft: &mut Draft, a: usize, b: usize, e_wh: u32) {
+    draft.readings.push(Reading {
+        party: random.below(draft.parties.len()) as u8,
+        a: a as u16,
+        b: b as u16,
+        e_wh,
+    });
+}
+
+/// The wanted E, or less of it where the hours have no room for it, or 0 where there is no weight. Takes the room.
+fn fitting_e_wh(wanted_wh: u64, weights: &[u32], room_wh: &mut [u64]) -> u64 {
+    let mut e_wh = wanted_wh;
+    while e_wh > 0 {
+        let Ok(figures) = periodised_wh(e_wh, weights) else {
+            return 0;
+        };
+        if figures
+            .iter()
+            .zip(room_wh.iter())
+            .all(|(figure, room)| figure <= room)
+        {
+            for (room, figure) in room_wh.iter_mut().zip(figures) {
+                *room -= figure;
+            }
+            return e_wh;
+        }
+        e_wh /= 1_000;
+    }
+    0
+}
+
+/// The curve of a draft whose fixed hours and shares are good.
+fn curve(draft: &Draft) -> Vec<u32> {
+    let share_sum = draft.share_sum_kwh() as u64;
+    let residuals = draft.fixed.iter().map(residual_of);
+    residuals
+        .map(|residual| curve_number(residual, share_sum) as u32)
+        .collect()
+}
+
+/// The residual of an hour that has a good one.
+fn residual_of(flows: &HourFlows) -> u32 {
+    let residual_wh = residual_wh(
+        flows.net_supply_wh,
+        flows.production_wh,
+        flows.hourly_wh,
+        flows.flex_wh,
+    );
+    residual_wh as u32
+}
+
+/// Spans of hours whose residual is a real zero, in the fixed series and, elsewhere, in the refixed one.
+fn real_zeros(random: &mut Random) -> Draft {
+    let (hours, parties) = (6 + random.below(30), 1 + random.below(5));
+    let refixed = random.once_in(2);
+    let mut draft = month(random, hours, parties, refixed, 0);
+    for series in [&mut draft.fixed, &mut draft.refixed] {
+        let from = random.below(hours / 2);
+        let length = 1 + random.below(hours / 2);
+        let zeros = series.iter_mut().skip(from).take(length);
+        zeros.for_each(|flows| *flows = random_hour(random, usize::from(flows.hour), 0));
+    }
+    add_readings(random, &mut draft, 8);
+    draft
+}
+
+/// Every hour a real zero: no curve, nothing distributed, readings of 0 only.
+fn no_consumption(random: &mut Random) -> Draft {
+    let refixed = random.once_in(2);
+    let mut draft = month(random, 5, 3, refixed, 0);
+    for series in [&mut draft.fixed, &mut draft.refixed] {
+        set_residuals(random, series, 0..=0);
+    }
+    add_readings(random, &mut draft, 3);
+    draft
+}
+
+/// Estimated hours in both series, at different hours, so that the count shows which series is applied.
+fn estimated_hours(random: &mut Random) -> Draft {
+    let (hours, refixed) = (4 + random.below(20), random.once_in(2));
+    let mut draft = month(random, hours, 3, refixed, 5);
+    for (series, once_in) in [(&mut draft.fixed, 2), (&mut draft.refixed, 3)] {
+        for flows in series.iter_mut() {
+            let estimated = random.once_in(once_in);
+            flows.status = if estimated {
+                STATUS_ESTIMATED
+            } else {
+                STATUS_MEASURED
+            };
+        }
+    }
+    draft
+}
+
+/// An area that produces more than it uses.
+fn negative_net_supply(random: &mut Random) -> Draft {
+    let mut draft = small_month(random, true);
+    for series in [&mut draft.fixed, &mut draft.refixed] {
+        for flows in series.iter_mut() {
+            let residual = residual_of(flows) as u64;
+            let exported_wh = random.between(1, 2_000_000_000);
+            flows.hourly_wh = random.any_size(2_000_000_000);
+            flows.flex_wh = random.any_size(2_000_000_000);
+            flows.net_supply_wh = -exported_wh;
+            flows.production_wh = residual + flows.hourly_wh + flows.flex_wh + exported_wh as u64;
+        }
+    }
+    draft
+}
+
+/// Net supply, production, hourly and flex at both ends of their ranges, with residuals 0 and 2,000,000,000.
+const FLOWS_AT_LIMITS: [(i64, u64, u64, u64); 7] = [
+    (8_000_000_000, 8_000_000_000, 8_000_000_000, 8_000_000_000),
+    (-8_000_000_000, 8_000_000_000, 0, 0),
+    (8_000_000_000, 0, 8_000_000_000, 0),
+    (8_000_000_000, 0, 0, 8_000_000_000),
+    (8_000_000_000, 2_000_000_000, 8_000_000_000, 0),
+    (-6_000_000_000, 8_000_000_000, 0, 0),
+    (8_000_000_000, 8_000_000_000, 8_000_000_000, 6_000_000_000),
+];
+
+/// One hour of each, in another order in the refixed series.
+fn flows_at_limits(random: &mut Random) -> Draft {
+    let hours = FLOWS_AT_LIMITS.len();
+    let shares = shares_of_sum(random, 3, 4_000_000_000);
+    let mut draft = month_of_shares(random, hours, shares, true);
+    let turned = random.below(hours);
+    for (series, turned) in [(&mut draft.fixed, 0), (&mut draft.refixed, turned)] {
+        for (hour, flows) in series.iter_mut().enumerate() {
+            let (net, production, hourly, flex) = FLOWS_AT_LIMITS[(hour + turned) % hours];
+            flows.net_supply_wh = net;
+            flows.production_wh = production;
+            flows.hourly_wh = hourly;
+            flows.flex_wh = flex;
+        }
+    }
+    add_readings(random, &mut draft, 3);
+    draft
+}
+
+/// Readings of 0 over hours without any weight, beside others.
+fn nothing_over_zero_weights(random: &mut Random) -> Draft {
+    let mut draft = month(random, 6, 3, false, 0);
+    for hour in 2..4 {
+        draft.fixed[hour] = random_hour(random, hour, 0);
+    }
+    add_reading(random, &mut draft, 2, 4, 0);
+    add_readings(random, &mut draft, 3);
+    add_reading(random, &mut draft, 3, 4, 0);
+    draft
+}
+
+/// Curve numbers of exactly 1,000,000,000, from residuals that divide evenly and from the largest that do not.
+fn curve_number_at_limit(random: &mut Random) -> Draft {
+    let share_sum = random.between(1, 1_999_000) as u64;
+    let parties = 1 + random.below(3);
+    let shares = shares_of_sum(random, parties, share_sum);
+    let refixed = random.once_in(2);
+    let mut draft = month_of_shares(random, 4, shares, refixed);
+    for hour in [0, 2] {
+        let residual = *random.pick(&[share_sum as i64 * 1_000, most_residual_wh(share_sum)]);
+        draft.fixed[hour] = random_hour(random, hour, residual);
+    }
+    add_readings(random, &mut draft, 4);
+    draft
+}
+
+/// A file of exactly 65,536 bytes: readings fill what hours and parties leave, over 6,000 of them in a month of few hours.
+fn longest_file(random: &mut Random) -> Draft {
+    loop {
+        let few_hours = 1 + random.below(9);
+        let hours = *random.pick(&[few_hours, 300, 511, 739, 744]);
+        let parties = 1 + random.below(64);
+        let mut draft = month(random, hours, parties, hours < 600, 0);
+        let left = FILE_BYTES_MAX - draft.bytes().len();
+        let one_reading = 10;
+        if left.is_multiple_of(one_reading) {
+            add_readings(random, &mut draft, left / one_reading);
+            return draft;
+        }
+    }
+}
+
+/// All is distributed to party 0 and all is read at party 1, every hour 2,000,000,000 Wh at the highest price.
+fn largest_amounts(random: &mut Random) -> Draft {
+    let hours = 745;
+    let mut draft = month_of_shares(random, hours, vec![4_000_000_000, 0, 0], false);
+    let price_ore = *random.pick(&[-5_000_000, 5_000_000]);
+    for hour in 0..hours {
+        draft.fixed[hour] = measured_hour(hour, 2_000_000_000);
+        draft.prices[hour].price_ore = price_ore;
+        let reading = Reading {
+            party: 1,
+            a: hour as u16,
+            b: hour as u16 + 1,
+            e_wh: READING_WH_MAX as u32,
+        };
+        draft.readings.extend([reading; 2]);
+    }
+    draft
+}

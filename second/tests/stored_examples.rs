@@ -1,0 +1,82 @@
+//! The stored examples are what `second example` makes and what the statement prints for them; and the program itself.
+
+use std::fs::{self, File};
+use std::path::PathBuf;
+use std::process::{Command, Output, Stdio};
+
+use second::examples::{example, full, NAMES};
+use second::month::settle;
+use second::statement::statement;
+
+fn stored(name: &str) -> PathBuf {
+    let directory = PathBuf::from(env!("CARGO_MANIFEST_DIR")).join("../examples");
+    directory.join(name)
+}
+
+fn second(arguments: &[&str], input: Stdio) -> Output {
+    Command::new(env!("CARGO_BIN_EXE_second"))
+        .args(arguments)
+        .stdin(input)
+        .output()
+        .unwrap()
+}
+
+#[test]
+fn stored_examples_are_up_to_date() {
+    for name in NAMES {
+        let file = fs::read(stored(&format!("{name}.month"))).unwrap();
+        assert_eq!(file, example(name).unwrap(), "{name}");
+        let text = fs::read_to_string(stored(&format!("{name}.statement"))).unwrap();
+        assert_eq!(text, statement(&file), "{name}");
+    }
+}
+
+#[test]
+fn the_silent_month_is_refused_at_its_hour() {
+    assert_eq!(statement(&example("silent").unwrap()), "refused 7 at 417\n");
+}
+
+#[test]
+fn the_full_month_is_a_full_month() {
+    let bytes = full().bytes();
+    let month = settle(&bytes).unwrap();
+    assert_eq!((month.hours.len(), month.file.parties.len()), (744, 40));
+    assert!(month.file.readings.len() >= 300);
+    assert!(!month.refixed_wh.is_empty() && month.refixed_wh != month.fixed_wh);
+    assert!(month.estimated_hours() > 0);
+    assert!(month.file.prices.iter().any(|price| price.price_ore < 0));
+}
+
+#[test]
+fn the_program_prints_statements_and_examples() {
+    for name in NAMES {
+        let input = File::open(stored(&format!("{name}.month"))).unwrap();
+        let printed = second(&["statement"], input.into());
+        let expected = fs::read(stored(&format!("{name}.statement"))).unwrap();
+        assert_eq!(printed.stdout, expected);
+        assert!(printed.status.success());
+        let made = second(&["example", name], Stdio::null());
+        assert_eq!(made.stdout, example(name).unwrap());
+    }
+    let empty = second(&["statement"], Stdio::null());
+    assert_eq!(empty.stdout, b"refused 1 at 0\n");
+}
+
+/// A directory can be opened and not be read.
+#[test]
+fn a_read_error_prints_nothing_and_fails() {
+    let directory = File::open(stored("")).unwrap();
+    let printed = second(&["statement"], directory.into());
+    assert_eq!(printed.stdout, b"");
+    assert!(!printed.stderr.is_empty());
+    assert_eq!(printed.status.code(), Some(1));
+}
+
+#[test]
+fn unknown_commands_fail() {
+    for arguments in [&[][..], &["statements"], &["example", "none"], &["make"]] {
+        let printed = second(arguments, Stdio::null());
+        assert!(printed.stdout.is_empty());
+        assert_eq!(printed.status.code(), Some(1));
+    }
+}
