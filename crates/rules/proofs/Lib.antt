@@ -1,4 +1,5 @@
 pub mod Refusals
+pub mod Loops
 pub mod Sums
 pub mod Integers
 pub mod LargestRemainder

@@ -39,7 +39,7 @@ pub data Refusal : Type 0 where
   -- "a lent output is not of the needed length (record writer: too short)"
   wrongLength : Refusal
 
-unfoldable pub numberOf : Refusal → ℕ
+abbrev pub numberOf : Refusal → ℕ
 numberOf fileFault = 1
 numberOf unknownKind = 2
 numberOf outOfOrder = 3
@@ -89,3 +89,8 @@ inTurn n check = first (figures n check)
 unfoldable pub answer : {A : Type 0} → Verdict → A → Answer A
 answer accepted a = given a
 answer (refused r place) a = refusal r place
+
+-- "A refused call writes nothing into any buffer it was lent." (00, demand 1): what a lent buffer holds once the call has answered
+unfoldable pub afterwards : {A : Type 0} → Verdict → List A → List A → List A
+afterwards accepted new old = new
+afterwards (refused r place) new old = old

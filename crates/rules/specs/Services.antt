@@ -15,7 +15,7 @@ use Rattle.rules.specs.Limits.{estimated, greatestFlow, mostHours, mostP
 use Rattle.rules.specs.Periodised.{periodisedFigure}
 use Rattle.rules.specs.Reconciliation.{gridLoss, differenceOf, amountMillionths}
 use Rattle.rules.specs.Refusals.{Refusal, outOfRange, wOutOfRange, residualTooLarge, curveTooLarge, spanFault, energyTooLarge, nothingToFollow, periodisedTooLarge, wrongLength, Verdict, unless, inTurn}
-use Rattle.rules.specs.Words.{sum, sumℤ, figures, at, within, withinℤ}
+use Rattle.rules.specs.Words.{sum, sumℤ, figures, at, within, withinℤ, atMost}
 
 unfoldable pub atℤ : List ℤ → ℕ → ℤ
 atℤ l i = getD l i (pos 0)
@@ -24,16 +24,30 @@ unfoldable pub sameℤ : ℤ → ℤ → Bool
 sameℤ a b = leZ a b && leZ b a
 
 -- every value of a list passes a test; the place is the first that does not
+unfoldable pub checkAt : List ℕ → (ℕ → Bool) → Refusal → ℕ → Verdict
+checkAt l test r i = unless (test (at l i)) r i
+
 unfoldable pub eachAt : List ℕ → (ℕ → Bool) → Refusal → Verdict
-eachAt l test r = inTurn (length l) (λ i. unless (test (at l i)) r i)
+eachAt l test r = inTurn (length l) (checkAt l test r)
+
+unfoldable pub checkAtℤ : List ℤ → (ℤ → Bool) → Refusal → ℕ → Verdict
+checkAtℤ l test r i = unless (test (atℤ l i)) r i
 
 unfoldable pub eachAtℤ : List ℤ → (ℤ → Bool) → Refusal → Verdict
-eachAtℤ l test r = inTurn (length l) (λ i. unless (test (atℤ l i)) r i)
+eachAtℤ l test r = inTurn (length l) (checkAtℤ l test r)
 
 -- RESIDUAL: statuses, net supply, production, hourly, flex.
 unfoldable pub flowsOf : List ℕ → List ℤ → List ℕ → List ℕ → List ℕ → ℕ → Flows
 flowsOf statuses nets productions hourlies flexes t =
     record { status = at statuses t; net = atℤ nets t; production = at productions t; hourly = at hourlies t; flex = at flexes t }
+
+unfoldable pub silentCheck : List ℕ → List ℤ → List ℕ → List ℕ → List ℕ → ℕ → Verdict
+silentCheck statuses nets productions hourlies flexes t =
+    unless (silentIsZero (flowsOf statuses nets productions hourlies flexes t)) outOfRange t
+
+unfoldable pub hourCheck : List ℕ → List ℤ → List ℕ → List ℕ → List ℕ → ℕ → Verdict
+hourCheck statuses nets productions hourlies flexes t =
+    verdictOf (judged (flowsOf statuses nets productions hourlies flexes t)) t
 
 -- 16; 4: lengths unequal, H, each list's values; "With status 0 a figure other than 0 is refused with 4 (service alone: at that hour, after
 -- all ranges)"; then "residual 7, 8, 9 hour by hour".
@@ -47,19 +61,25 @@ residualChecks statuses nets productions hourlies flexes lent =
     outOfRange
     0
     ∷ unless (within 1 mostHours (length statuses)) outOfRange 0
-    ∷ eachAt statuses (λ status. leb status estimated) outOfRange
+    ∷ eachAt statuses (atMost estimated) outOfRange
     ∷ eachAtℤ nets (withinℤ greatestFlow) outOfRange
-    ∷ eachAt productions (λ wh. leb wh greatestFlow) outOfRange
-    ∷ eachAt hourlies (λ wh. leb wh greatestFlow) outOfRange
-    ∷ eachAt flexes (λ wh. leb wh greatestFlow) outOfRange
-    ∷ inTurn (length statuses)
-    (λ t. unless (silentIsZero (flowsOf statuses nets productions hourlies flexes t)) outOfRange t)
-    ∷ inTurn (length statuses) (λ t. verdictOf (judged (flowsOf statuses nets productions hourlies flexes t)) t)
+    ∷ eachAt productions (atMost greatestFlow) outOfRange
+    ∷ eachAt hourlies (atMost greatestFlow) outOfRange
+    ∷ eachAt flexes (atMost greatestFlow) outOfRange
+    ∷ inTurn (length statuses) (silentCheck statuses nets productions hourlies flexes)
+    ∷ inTurn (length statuses) (hourCheck statuses nets productions hourlies flexes)
     ∷ []
+
+unfoldable pub residualAt : List ℕ → List ℤ → List ℕ → List ℕ → List ℕ → ℕ → ℕ
+residualAt statuses nets productions hourlies flexes t = residualWh (flowsOf statuses nets productions hourlies flexes t)
 
 unfoldable pub residualFigures : List ℕ → List ℤ → List ℕ → List ℕ → List ℕ → List ℕ
 residualFigures statuses nets productions hourlies flexes =
-    figures (length statuses) (λ t. residualWh (flowsOf statuses nets productions hourlies flexes t))
+    figures (length statuses) (residualAt statuses nets productions hourlies flexes)
+
+-- "Curve number at most 1,000,000,000."
+unfoldable pub curveFits : ℕ → ℕ → Bool
+curveFits w wh = leb (curveNumber wh w) greatestCurveNumber
 
 -- CURVE: residuals, W. 16; 4 (H); "curve 6, 9 over all hours, 10".
 unfoldable pub curveChecks : List ℕ → ℕ → ℕ → List Verdict
@@ -67,28 +87,33 @@ curveChecks residuals w lent =
     unless (eqb lent (length residuals)) wrongLength 0
     ∷ unless (within 1 mostHours (length residuals)) outOfRange 0
     ∷ unless (within 1 greatestW w) wOutOfRange 0
-    ∷ eachAt residuals (λ wh. leb wh greatestResidual) residualTooLarge
-    ∷ eachAt residuals (λ wh. leb (curveNumber wh w) greatestCurveNumber) curveTooLarge
+    ∷ eachAt residuals (atMost greatestResidual) residualTooLarge
+    ∷ eachAt residuals (curveFits w) curveTooLarge
     ∷ []
 
+unfoldable pub curveAt : List ℕ → ℕ → ℕ → ℕ
+curveAt residuals w t = curveNumber (at residuals t) w
+
 unfoldable pub curveFigures : List ℕ → ℕ → List ℕ
-curveFigures residuals w = figures (length residuals) (λ t. curveNumber (at residuals t) w)
+curveFigures residuals w = figures (length residuals) (curveAt residuals w)
 
 -- DISTRIBUTION: shares, residuals. 16; 4 (H, P, a share at its party); "distribution 6, 9".
 unfoldable pub distributionChecks : List ℕ → List ℕ → ℕ → List Verdict
 distributionChecks shares residuals lent =
     unless (eqb lent (length shares * length residuals)) wrongLength 0
     ∷ unless (within 1 mostHours (length residuals) && within 1 mostParties (length shares)) outOfRange 0
-    ∷ eachAt shares (λ share. leb share greatestShare) outOfRange
+    ∷ eachAt shares (atMost greatestShare) outOfRange
     ∷ unless (within 1 greatestW (W (length shares) (at shares))) wOutOfRange 0
-    ∷ eachAt residuals (λ wh. leb wh greatestResidual) residualTooLarge
+    ∷ eachAt residuals (atMost greatestResidual) residualTooLarge
     ∷ []
 
 -- hour by hour, within an hour party by party
+unfoldable pub distributedAt : List ℕ → List ℕ → ℕ → ℤ
+distributedAt shares residuals k =
+    distributedFigure (length shares) (at shares) (at residuals) (k / length shares) (k % length shares)
+
 unfoldable pub distributionFigures : List ℕ → List ℕ → List ℤ
-distributionFigures shares residuals =
-    figures (length residuals * length shares)
-    (λ k. distributedFigure (length shares) (at shares) (at residuals) (k / length shares) (k % length shares))
+distributionFigures shares residuals = figures (length residuals * length shares) (distributedAt shares residuals)
 
 -- PERIODISATION: E, weights. 16; "periodisation 11, 12, 10, 13 (all at place 0 but 10)".
 unfoldable pub periodisationChecks : ℕ → List ℕ → ℕ → List Verdict
@@ -96,12 +121,16 @@ periodisationChecks e weights lent =
     unless (eqb lent (length weights)) wrongLength 0
     ∷ unless (within 1 mostWeights (length weights)) spanFault 0
     ∷ unless (leb e greatestEnergy) energyTooLarge 0
-    ∷ eachAt weights (λ weight. leb weight greatestCurveNumber) curveTooLarge
+    ∷ eachAt weights (atMost greatestCurveNumber) curveTooLarge
     ∷ unless (eqb e 0 || leb 1 (sum (length weights) (at weights))) nothingToFollow 0
     ∷ []
 
 unfoldable pub periodisationFigures : ℕ → List ℕ → List ℕ
 periodisationFigures e weights = figures (length weights) (periodisedFigure e (length weights) (at weights))
+
+-- "-1..2,000,000,001"
+unfoldable pub distributedFits : ℤ → Bool
+distributedFits wh = leZ (negsuc 0) wh && leZ wh (pos greatestDistributed)
 
 -- RECONCILIATION OF ONE HOUR: residual, distributed, periodised, carrier, price; two lent outputs. 16; "its 4 covers carrier, price, distributed
 -- outside -1..2,000,000,001, periodised outside 0..2,000,000,000 and, last, distributed not adding up to the residual (place 0); then 9, 14, both at place 0."
@@ -111,8 +140,8 @@ reconciliationChecks residual distributed periodised carrier price lentDifferenc
     ∷ unless (eqb (length periodised) (length distributed)) outOfRange 0
     ∷ unless (within 1 mostParties (length distributed)) outOfRange 0
     ∷ unless (ltb carrier (length distributed) && withinℤ greatestPrice price) outOfRange 0
-    ∷ eachAtℤ distributed (λ wh. leZ (negsuc 0) wh && leZ wh (pos greatestDistributed)) outOfRange
-    ∷ eachAt periodised (λ wh. leb wh greatestPeriodised) outOfRange
+    ∷ eachAtℤ distributed distributedFits outOfRange
+    ∷ eachAt periodised (atMost greatestPeriodised) outOfRange
     ∷ unless (sameℤ (sumℤ (length distributed) (atℤ distributed)) (pos residual)) outOfRange 0
     ∷ unless (leb residual greatestResidual) residualTooLarge 0
     ∷ unless (leb (sum (length periodised) (at periodised)) greatestPeriodised) periodisedTooLarge 0
@@ -126,6 +155,8 @@ reconciliationDifferences residual distributed periodised carrier =
     figures (length distributed)
     (differenceOf carrier (reconciliationLoss residual periodised) (at periodised) (atℤ distributed))
 
+unfoldable pub amountAt : List ℤ → ℤ → ℕ → ℤ
+amountAt differences price i = amountMillionths (atℤ differences i) price
+
 unfoldable pub reconciliationAmounts : List ℤ → ℤ → List ℤ
-reconciliationAmounts differences price =
-    figures (length differences) (λ i. amountMillionths (atℤ differences i) price)
+reconciliationAmounts differences price = figures (length differences) (amountAt differences price)

@@ -37,6 +37,10 @@ at l i = getD l i 0
 unfoldable pub within : ℕ → ℕ → ℕ → Bool
 within low high n = leb low n && leb n high
 
+-- 0 .. most
+unfoldable pub atMost : ℕ → ℕ → Bool
+atMost most n = leb n most
+
 -- -most .. most
 unfoldable pub withinℤ : ℕ → ℤ → Bool
 withinℤ most z = leZ (negℤ (pos most)) z && leZ z (pos most)
