@@ -1,0 +1,4 @@
+pub mod Order
+pub mod Arrays
+pub mod Totals
+pub mod Step
