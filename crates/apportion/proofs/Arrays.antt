@@ -16,13 +16,14 @@ use Rattle.rules.specs.Limits.{mostParties}
 pub filled-none : {A : Type 0} (nothing : A) (figure : ℕ → A) (l : List A) → length l ≡ mostParties → ((k : ℕ) → getD l k nothing ≡ nothing) → Filled nothing figure 0 l
 filled-none nothing figure l e h = record { size = e; below = λ k b. absurd (not-suc-le-zero b); past = λ k b. h k }
 
+pub all-nothing : {A : Type 0} (nothing : A) (n k : ℕ) → getD (replicate n nothing) k nothing ≡ nothing
+all-nothing nothing zero k = refl
+all-nothing nothing (suc n) zero = refl
+all-nothing nothing (suc n) (suc k) = all-nothing nothing n k
+
 pub filled-zeros : {A : Type 0} (nothing : A) (figure : ℕ → A) → Filled nothing figure 0 (replicate 64 nothing)
-filled-zeros nothing figure = filled-none nothing figure (replicate 64 nothing) (length-replicate 64 nothing) (all-nothing 64)
-  where
-    all-nothing : (n k : ℕ) → getD (replicate n nothing) k nothing ≡ nothing
-    all-nothing zero k = refl
-    all-nothing (suc n) zero = refl
-    all-nothing (suc n) (suc k) = all-nothing n k
+filled-zeros nothing figure =
+    filled-none nothing figure (replicate 64 nothing) (length-replicate 64 nothing) (all-nothing nothing 64)
 
 pub filled-next : {A : Type 0} {nothing : A} {figure : ℕ → A} {i : ℕ} {l : List A} {v : A} → Filled nothing figure i l → i < mostParties → v ≡ figure i → Filled nothing figure (i + 1) (set l i v)
 filled-next {A} {nothing} {figure} {i} {l} {v} f b e =
