@@ -3,3 +3,5 @@ pub mod Arrays
 pub mod Totals
 pub mod Step
 pub mod Start
+pub mod Service
+pub mod Hours

@@ -1,3 +1,4 @@
 pub mod Filled
 pub mod Parts
 pub mod Good
+pub mod Service
