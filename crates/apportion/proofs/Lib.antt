@@ -5,3 +5,4 @@ pub mod Step
 pub mod Start
 pub mod Service
 pub mod Hours
+pub mod Passes

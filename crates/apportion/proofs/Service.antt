@@ -94,13 +94,15 @@ module _ (shares : List ℕ) (few : FewShares shares) (share : List ℕ) (filled
     pub w-too-large : 1 ≤ w → 4000000000 < w → refused wOutOfRange 0 ≡ wVerdict shares
     unfolding wVerdict unless within
     w-too-large a b =
-        rw
-        (le-leb 1 (W (length shares) (at shares)) (omega (arith, same-sum)),
-        lt-leb (W (length shares) (at shares)) 4000000000 (omega (arith, same-sum)))
+        rw (
+          le-leb 1 (W (length shares) (at shares)) (omega (arith, same-sum)),
+          lt-leb (W (length shares) (at shares)) 4000000000 (omega (arith, same-sum)),
+        )
 
     pub w-right : 1 ≤ w → w ≤ 4000000000 → accepted ≡ wVerdict shares
     unfolding wVerdict unless within
     w-right a b =
-        rw
-        (le-leb 1 (W (length shares) (at shares)) (omega (arith, same-sum)),
-        le-leb (W (length shares) (at shares)) 4000000000 (omega (arith, same-sum)))
+        rw (
+          le-leb 1 (W (length shares) (at shares)) (omega (arith, same-sum)),
+          le-leb (W (length shares) (at shares)) 4000000000 (omega (arith, same-sum)),
+        )

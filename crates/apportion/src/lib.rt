@@ -1,8 +1,10 @@
 // The largest-remainder rule, the carries of all parties, and the distribution service (01 "Distributed consumption"; H2 5.3). A party's running sum is
 // share x R / W rounded down, and the Wh left over go one each to the largest remainders. What is carried from hour to hour is the remainder of that
 // division, so no product passes 64 bits.
-use answer::{Answer, Refusal, each_at_most_u32, each_at_most_u64};
-
+use answer::Answer;
+use answer::Refusal;
+use answer::each_at_most_u32;
+use answer::each_at_most_u64;
 ghost use mathlib.Core.Path.{_≡_};
 ghost use Prim.Native.Nat.{ℕ, _+_, _-_, _*_, _/_, _%_, _≤_, _<_};
 ghost use lib.Dec.{eqb};
@@ -26,6 +28,7 @@ const MOST_HOURS: usize = 745;
 
 // "Load share 0..4,000,000,000; W 1..4,000,000,000."
 const GREATEST_SHARE: u64 = 4000000000;
+
 const GREATEST_W: u64 = 4000000000;
 
 // "Residual 0..2,000,000,000."

@@ -21,10 +21,11 @@ add-left : tie.Need-add-left
 add-left c = omega (arith, S.left-few (c .before .before .before .before .before .before .before .before .before .before .before .before .args .self) (c .before .before .before .before .before .before .before .before .before .before .before .before .args .residual-wh) (c .before .before .before .before .before .before .before .before .before .before .before .before .pre) _ (c .before .before .before .before .before .before .grown-by .ensures) _ (c .before .before .before .before .quotients .ensures), (c .before .before .before .before .before .before .before .before .before .before .before .before .pre .sum-fits))
 
 total-requires : tie.Need-total-requires
-total-requires c κs = 
-    (search needs,
-    omega
-    (arith, S.quotients-few (c .before .before .before .before .before .before .before .before .before .before .before .before .before .args .self) (c .before .before .before .before .before .before .before .before .before .before .before .before .before .args .residual-wh) (c .before .before .before .before .before .before .before .before .before .before .before .before .before .pre) _ (c .before .before .before .before .before .before .before .grown-by .ensures) _ (c .before .before .before .before .before .quotients .ensures), S.left-few (c .before .before .before .before .before .before .before .before .before .before .before .before .before .args .self) (c .before .before .before .before .before .before .before .before .before .before .before .before .before .args .residual-wh) (c .before .before .before .before .before .before .before .before .before .before .before .before .before .pre) _ (c .before .before .before .before .before .before .before .grown-by .ensures) _ (c .before .before .before .before .before .quotients .ensures), (c .before .before .before .before .before .before .before .before .before .before .before .before .before .pre .sum-fits)))
+total-requires c κs = (
+  search needs,
+  omega
+      (arith, S.quotients-few (c .before .before .before .before .before .before .before .before .before .before .before .before .before .args .self) (c .before .before .before .before .before .before .before .before .before .before .before .before .before .args .residual-wh) (c .before .before .before .before .before .before .before .before .before .before .before .before .before .pre) _ (c .before .before .before .before .before .before .before .grown-by .ensures) _ (c .before .before .before .before .before .quotients .ensures), S.left-few (c .before .before .before .before .before .before .before .before .before .before .before .before .before .args .self) (c .before .before .before .before .before .before .before .before .before .before .before .before .before .args .residual-wh) (c .before .before .before .before .before .before .before .before .before .before .before .before .before .pre) _ (c .before .before .before .before .before .before .before .grown-by .ensures) _ (c .before .before .before .before .before .quotients .ensures), (c .before .before .before .before .before .before .before .before .before .before .before .before .before .pre .sum-fits)),
+)
 
 sub-left : tie.Need-sub-left
 sub-left c = omega (arith, c .total .ensures, S.quotients-few (c .before .before .before .before .before .before .before .before .before .before .before .before .before .before .args .self) (c .before .before .before .before .before .before .before .before .before .before .before .before .before .before .args .residual-wh) (c .before .before .before .before .before .before .before .before .before .before .before .before .before .before .pre) _ (c .before .before .before .before .before .before .before .before .grown-by .ensures) _ (c .before .before .before .before .before .before .quotients .ensures))
@@ -33,15 +34,16 @@ one-each-requires : tie.Need-one-each-requires
 one-each-requires c κs = search needs
 
 figures-of-requires : tie.Need-figures-of-requires
-figures-of-requires c κs = 
-    (search needs,
-    S.parts-small (c .before .before .before .before .before .before .before .before .before .before .before .before .before .before .before .before .before .before .before .args .self) (c .before .before .before .before .before .before .before .before .before .before .before .before .before .before .before .before .before .before .before .args .residual-wh) (c .before .before .before .before .before .before .before .before .before .before .before .before .before .before .before .before .before .before .before .pre) _ (c .before .before .before .before .before .before .before .before .before .before .before .before .before .grown-by .ensures) _ (c .before .before .before .before .before .before .before .before .before .before .before .quotients .ensures) _ (c .before .before .before .before .before .before .before .before .rests .ensures) _ (ap (λ (s : ℕ). (c .before .before .before .before .before .before .before .before .before .before .before .before .before .before .before .before .before .before .before .args .self .left) + (c .before .before .before .before .before .before .before .before .before .before .before .before .before .before .before .before .before .before .before .args .residual-wh) - s) (c .before .before .before .before .before .total .ensures) ∙ S.left-is (c .before .before .before .before .before .before .before .before .before .before .before .before .before .before .before .before .before .before .before .args .self) (c .before .before .before .before .before .before .before .before .before .before .before .before .before .before .before .before .before .before .before .args .residual-wh) (c .before .before .before .before .before .before .before .before .before .before .before .before .before .before .before .before .before .before .before .pre) _ (c .before .before .before .before .before .before .before .before .before .before .before .before .before .grown-by .ensures) _ (c .before .before .before .before .before .before .before .before .before .before .before .quotients .ensures)) _ (c .before .before .before .one-each .ensures))
+figures-of-requires c κs = (
+  search needs,
+  S.parts-small (c .before .before .before .before .before .before .before .before .before .before .before .before .before .before .before .before .before .before .before .args .self) (c .before .before .before .before .before .before .before .before .before .before .before .before .before .before .before .before .before .before .before .args .residual-wh) (c .before .before .before .before .before .before .before .before .before .before .before .before .before .before .before .before .before .before .before .pre) _ (c .before .before .before .before .before .before .before .before .before .before .before .before .before .grown-by .ensures) _ (c .before .before .before .before .before .before .before .before .before .before .before .quotients .ensures) _ (c .before .before .before .before .before .before .before .before .rests .ensures) _ (ap (λ (s : ℕ). (c .before .before .before .before .before .before .before .before .before .before .before .before .before .before .before .before .before .before .before .args .self .left) + (c .before .before .before .before .before .before .before .before .before .before .before .before .before .before .before .before .before .before .before .args .residual-wh) - s) (c .before .before .before .before .before .total .ensures) ∙ S.left-is (c .before .before .before .before .before .before .before .before .before .before .before .before .before .before .before .before .before .before .before .args .self) (c .before .before .before .before .before .before .before .before .before .before .before .before .before .before .before .before .before .before .before .args .residual-wh) (c .before .before .before .before .before .before .before .before .before .before .before .before .before .before .before .before .before .before .before .pre) _ (c .before .before .before .before .before .before .before .before .before .before .before .before .before .grown-by .ensures) _ (c .before .before .before .before .before .before .before .before .before .before .before .quotients .ensures)) _ (c .before .before .before .one-each .ensures),
+)
 
 add-t22 : tie.Need-add-t22
 add-t22 c = omega (arith, (c .before .before .before .before .before .before .before .before .before .before .before .before .before .before .before .before .before .before .before .before .before .pre .sum-fits))
 
 returns : tie.Need-returns
-returns c = 
+returns c =
     S.next (c .before .before .before .before .before .before .before .before .before .before .before .before .before .before .before .before .before .before .before .before .before .args .self) (c .before .before .before .before .before .before .before .before .before .before .before .before .before .before .before .before .before .before .before .before .before .args .residual-wh) (c .before .before .before .before .before .before .before .before .before .before .before .before .before .before .before .before .before .before .before .before .before .pre) _ (c .before .before .before .before .before .before .before .before .before .before .before .before .before .before .before .grown-by .ensures) _ (c .before .before .before .before .before .before .before .before .before .before .before .before .before .quotients .ensures) _ (c .before .before .before .before .before .before .before .before .before .before .rests .ensures) _ (ap (λ (s : ℕ). (c .before .before .before .before .before .before .before .before .before .before .before .before .before .before .before .before .before .before .before .before .before .args .self .left) + (c .before .before .before .before .before .before .before .before .before .before .before .before .before .before .before .before .before .before .before .before .before .args .residual-wh) - s) (c .before .before .before .before .before .before .before .total .ensures) ∙ S.left-is (c .before .before .before .before .before .before .before .before .before .before .before .before .before .before .before .before .before .before .before .before .before .args .self) (c .before .before .before .before .before .before .before .before .before .before .before .before .before .before .before .before .before .before .before .before .before .args .residual-wh) (c .before .before .before .before .before .before .before .before .before .before .before .before .before .before .before .before .before .before .before .before .before .pre) _ (c .before .before .before .before .before .before .before .before .before .before .before .before .before .before .before .grown-by .ensures) _ (c .before .before .before .before .before .before .before .before .before .before .before .before .before .quotients .ensures)) _ (c .before .before .before .before .before .one-each .ensures) _
     (c .before .figures-of .ensures)
 
