@@ -6,3 +6,5 @@ pub mod Start
 pub mod Service
 pub mod Hours
 pub mod Passes
+pub mod Demand
+pub mod Unique

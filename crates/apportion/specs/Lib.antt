@@ -2,3 +2,4 @@ pub mod Filled
 pub mod Parts
 pub mod Good
 pub mod Service
+pub mod Demand
