@@ -1,0 +1,10 @@
+pub mod Order
+pub mod Arrays
+pub mod Totals
+pub mod Step
+pub mod Start
+pub mod Service
+pub mod Hours
+pub mod Passes
+pub mod Demand
+pub mod Unique

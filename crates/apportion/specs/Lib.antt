@@ -1,0 +1,5 @@
+pub mod Filled
+pub mod Parts
+pub mod Good
+pub mod Service
+pub mod Demand

@@ -1,0 +1,362 @@
+// The largest-remainder rule, the carries of all parties, and the distribution service (01 "Distributed consumption"; H2 5.3). A party's running sum is
+// share x R / W rounded down, and the Wh left over go one each to the largest remainders. What is carried from hour to hour is the remainder of that
+// division, so no product passes 64 bits.
+use answer::Answer;
+use answer::Refusal;
+use answer::each_at_most_u32;
+use answer::each_at_most_u64;
+ghost use mathlib.Core.Path.{_≡_};
+ghost use Prim.Native.Nat.{ℕ, _+_, _-_, _*_, _/_, _%_, _≤_, _<_};
+ghost use lib.Dec.{eqb};
+ghost use lib.IntN.{pos};
+ghost use lib.ListN.{length};
+ghost use Rattle.apportion.specs.Filled.{Filled};
+ghost use Rattle.apportion.specs.Good.{Startable, Started, Ready, Next};
+ghost use Rattle.apportion.specs.Parts.{beforeNumber, below, grownBy, quotientBy, restBy, figureBy, minus, SmallParts};
+ghost use Rattle.answer.specs.Said.{said};
+ghost use Rattle.apportion.specs.Service.{shapeVerdict, wVerdict, FewShares, FilledOn, Distributable};
+ghost use Rattle.rules.specs.Distributed.{rank, oneEach};
+ghost use Rattle.rules.specs.Refusals.{first, afterwards};
+ghost use Rattle.rules.specs.Services.{distributionChecks, distributionFigures};
+ghost use Rattle.rules.specs.Words.{at, sum};
+
+// "P 1..64"
+pub const MOST_PARTIES: usize = 64;
+
+// "H 1..745."
+const MOST_HOURS: usize = 745;
+
+// "Load share 0..4,000,000,000; W 1..4,000,000,000."
+const GREATEST_SHARE: u64 = 4000000000;
+
+const GREATEST_W: u64 = 4000000000;
+
+// "Residual 0..2,000,000,000."
+const GREATEST_RESIDUAL: u32 = 2000000000;
+
+// The carries of all parties: what is handed on from hour to hour.
+pub struct Carries {
+    pub parties: usize,
+    // W, the sum of the shares
+    pub w: u64,
+    // R, the sum of the residuals so far
+    pub sum_wh: u64,
+    // the Wh left over of R
+    pub left: u64,
+    pub share: [u64; 64],
+    // share x R mod W
+    pub remainder: [u64; 64],
+    // 1 for a party that has one of the Wh left over, else 0
+    pub extra: [u64; 64],
+    // the figures of the last hour
+    pub figures: [i64; 64],
+}
+
+// "the largest remainders ..; of equal remainders the lower party number comes first": 1 where the other comes before, else 0.
+fn comes_before(other: u64, own: u64, lower: bool) -> u64
+    ensures number { λ r. ⌜ r ≡ beforeNumber other own lower ⌝ }
+    ensures small { λ r. ⌜ r ≤ 1 ⌝ }
+{
+    if own < other {
+        return 1;
+    }
+    if other < own {
+        return 0;
+    }
+    if lower { 1 } else { 0 }
+}
+
+// How many of the first n come before i.
+fn rank_of(rest: &[u64; 64], n: usize, i: usize) -> u64
+    requires { ⌜ (n ≤ 64) × (i < 64) ⌝ }
+    ensures { λ r. ⌜ r ≡ rank n (at (now (rest .entry))) i ⌝ }
+{
+    let own = rest[i];
+    let mut before = 0;
+    let mut j = 0;
+    while j < n {
+        before += comes_before(rest[j], own, j < i);
+        j += 1;
+    }
+    before
+}
+
+// 1 where the rank is below what is left, else 0.
+fn one_of(rank: u64, left: u64) -> u64
+    ensures { λ r. ⌜ r ≡ below rank left ⌝ }
+{
+    if rank < left { 1 } else { 0 }
+}
+
+// "The Wh still left over go one each to the parties with the largest remainders": 1 for each of the `left` of n with the largest `rest`, else 0. Nothing
+// here knows of shares or Wh.
+pub fn one_each(rest: &[u64; 64], n: usize, left: u64) -> [u64; 64]
+    requires { ⌜ n ≤ 64 ⌝ }
+    ensures { λ r. ⌜ Filled 0 (oneEach n (at (now (rest .entry))) left) n r ⌝ }
+{
+    let mut extra = [0u64; 64];
+    let mut i = 0;
+    while i < n {
+        extra[i] = one_of(rank_of(rest, n, i), left);
+        i += 1;
+    }
+    extra
+}
+
+// The kept remainder and what the hour adds, party by party.
+fn grown_by(remainder: &[u64; 64], share: &[u64; 64], n: usize, residual: u64) -> [u64; 64]
+    requires { ⌜ (n ≤ 64) × ((k : ℕ) → k < n → grownBy (now remainder) (now share) residual k < 18446744073709551616) ⌝ }
+    ensures { λ r. ⌜ Filled 0 (grownBy (now (remainder .entry)) (now (share .entry)) residual) n r ⌝ }
+{
+    let mut grown = [0u64; 64];
+    let mut i = 0;
+    while i < n {
+        grown[i] = remainder[i] + share[i] * residual;
+        i += 1;
+    }
+    grown
+}
+
+// What each floor grows by.
+fn quotients(grown: &[u64; 64], n: usize, w: u64) -> [u64; 64]
+    requires { ⌜ (n ≤ 64) × (0 < w) ⌝ }
+    ensures { λ r. ⌜ Filled 0 (quotientBy (now (grown .entry)) w) n r ⌝ }
+{
+    let mut quotient = [0u64; 64];
+    let mut i = 0;
+    while i < n {
+        quotient[i] = grown[i] / w;
+        i += 1;
+    }
+    quotient
+}
+
+// The remainder that is kept of one party.
+fn rest_of(grown: u64, quotient: u64, w: u64) -> u64
+    requires { ⌜ quotient * w ≤ grown ⌝ }
+    ensures { λ r. ⌜ r ≡ grown - quotient * w ⌝ }
+{
+    grown - quotient * w
+}
+
+// The remainders that are kept.
+fn rests(grown: &[u64; 64], quotient: &[u64; 64], n: usize, w: u64) -> [u64; 64]
+    requires { ⌜ (n ≤ 64) × ((k : ℕ) → k < n → at (now quotient) k * w ≤ at (now grown) k) ⌝ }
+    ensures { λ r. ⌜ Filled 0 (restBy (now (grown .entry)) (now (quotient .entry)) w) n r ⌝ }
+{
+    let mut rest = [0u64; 64];
+    let mut i = 0;
+    while i < n {
+        rest[i] = rest_of(grown[i], quotient[i], w);
+        i += 1;
+    }
+    rest
+}
+
+// The sum of the first n.
+fn total(values: &[u64; 64], n: usize) -> u64
+    requires { ⌜ (n ≤ 64) × (sum n (at (now values)) < 18446744073709551616) ⌝ }
+    ensures { λ r. ⌜ r ≡ sum n (at (now (values .entry))) ⌝ }
+{
+    let mut all = 0;
+    let mut i = 0;
+    while i < n {
+        all += values[i];
+        i += 1;
+    }
+    all
+}
+
+// One party's figure: what its floor grew by, with the left-over Wh of now and without that of before.
+fn figure_of(quotient: u64, after: u64, before: u64) -> i64
+    requires { ⌜ (quotient + after < 9223372036854775808) × (before < 9223372036854775808) ⌝ }
+    ensures { λ r. ⌜ r ≡ minus (quotient + after) before ⌝ }
+{
+    (quotient + after) as i64 - before as i64
+}
+
+// The hour's figures.
+fn figures_of(quotient: &[u64; 64], after: &[u64; 64], before: &[u64; 64], n: usize) -> [i64; 64]
+    requires { ⌜ (n ≤ 64) × ((k : ℕ) → k < n → SmallParts (now quotient) (now after) (now before) k) ⌝ }
+    ensures { λ r. ⌜ Filled (pos 0) (figureBy (now (quotient .entry)) (now (after .entry)) (now (before .entry))) n r ⌝ }
+{
+    let mut figures = [0i64; 64];
+    let mut i = 0;
+    while i < n {
+        figures[i] = figure_of(quotient[i], after[i], before[i]);
+        i += 1;
+    }
+    figures
+}
+
+// The shares of a span, one place for each party that a month can have.
+fn padded(shares: &[u64]) -> [u64; 64]
+    requires { ⌜ length (now shares) ≤ 64 ⌝ }
+    ensures { λ r. ⌜ Filled 0 (at (now (shares .entry))) (length (now (shares .entry))) r ⌝ }
+{
+    let mut share = [0u64; 64];
+    let mut i = 0;
+    while i < shares.len() {
+        share[i] = shares[i];
+        i += 1;
+    }
+    share
+}
+
+impl Carries {
+    // Before the first hour of a span with these shares: nothing carried, nothing left over. It can be started at any hour.
+    pub fn start(shares: &[u64]) -> Carries
+        requires { ⌜ Startable (now shares) ⌝ }
+        ensures { λ r. ⌜ Started (now (shares .entry)) r ⌝ }
+    {
+        let n = shares.len();
+        let share = padded(shares);
+        let w = total(&share, n);
+        Carries {
+            parties: n,
+            w,
+            sum_wh: 0,
+            left: 0,
+            share,
+            remainder: [0u64; 64],
+            extra: [0u64; 64],
+            figures: [0i64; 64],
+        }
+    }
+
+    // One hour on: the state after one residual more, with the hour's figures in it.
+    pub fn step(self, residual_wh: u32) -> Carries
+        requires { ⌜ Ready self «residual_wh» ⌝ }
+        ensures { λ r. ⌜ Next self «residual_wh» r ⌝ }
+    {
+        let n = self.parties;
+        let w = self.w;
+        let share = self.share;
+        let remainder = self.remainder;
+        let before = self.extra;
+        let residual = residual_wh as u64;
+        let grown = grown_by(&remainder, &share, n, residual);
+        let quotient = quotients(&grown, n, w);
+        let rest = rests(&grown, &quotient, n, w);
+        let left = self.left + residual - total(&quotient, n);
+        let extra = one_each(&rest, n, left);
+        let figures = figures_of(&quotient, &extra, &before, n);
+        Carries {
+            parties: n,
+            w,
+            sum_wh: self.sum_wh + residual,
+            left,
+            share,
+            remainder: rest,
+            extra,
+            figures,
+        }
+    }
+}
+
+// Whether a lent output has a place for each party in each hour; by division, since the product could pass 64 bits.
+fn lent_right(lent: usize, parties: usize, hours: usize) -> bool
+    ensures { λ r. ⌜ r ≡ eqb lent (parties * hours) ⌝ }
+{
+    if parties == 0 {
+        return lent == 0;
+    }
+    if lent % parties != 0 {
+        return false;
+    }
+    lent / parties == hours
+}
+
+// 16, then 4 for H and P.
+fn shape(lent: usize, parties: usize, hours: usize) -> Answer
+    ensures { λ r. ⌜ said r ≡ shapeVerdict lent parties hours ⌝ }
+{
+    if !lent_right(lent, parties, hours) {
+        return Answer::Refused(Refusal::WrongLength, 0);
+    }
+    if hours < 1 {
+        return Answer::Refused(Refusal::OutOfRange, 0);
+    }
+    if MOST_HOURS < hours {
+        return Answer::Refused(Refusal::OutOfRange, 0);
+    }
+    if parties < 1 {
+        return Answer::Refused(Refusal::OutOfRange, 0);
+    }
+    if MOST_PARTIES < parties {
+        return Answer::Refused(Refusal::OutOfRange, 0);
+    }
+    Answer::Done
+}
+
+// 6: W, the sum of at most 64 shares within their limit.
+fn w_in_range(shares: &[u64]) -> Answer
+    requires { ⌜ FewShares (now shares) ⌝ }
+    ensures { λ r. ⌜ said r ≡ wVerdict (now (shares .entry)) ⌝ }
+{
+    let share = padded(shares);
+    let w = total(&share, shares.len());
+    if w < 1 {
+        return Answer::Refused(Refusal::WOutOfRange, 0);
+    }
+    if GREATEST_W < w {
+        return Answer::Refused(Refusal::WOutOfRange, 0);
+    }
+    Answer::Done
+}
+
+// The hour's figures into a lent list, from a place on.
+fn put_hour(figures: &[i64; 64], n: usize, out: &mut [i64], place: usize)
+    requires { ⌜ (n ≤ 64) × (place + n ≤ length (now out)) ⌝ }
+    ensures { λ r. ⌜ FilledOn (now (figures .entry)) n place (now (out .entry)) (now (out .exit)) ⌝ }
+{
+    let mut i = 0;
+    while i < n {
+        out[place + i] = figures[i];
+        i += 1;
+    }
+}
+
+// All hours in turn, each from the carries of the hour before.
+fn distribute(shares: &[u64], residuals: &[u32], out: &mut [i64])
+    requires { ⌜ Distributable (now shares) (now residuals) (length (now out)) ⌝ }
+    ensures { λ r. ⌜ now (out .exit) ≡ distributionFigures (now (shares .entry)) (now (residuals .entry)) ⌝ }
+{
+    let n = shares.len();
+    let mut carries = Carries::start(shares);
+    let mut place = 0;
+    let mut t = 0;
+    while t < residuals.len() {
+        carries = carries.step(residuals[t]);
+        let figures = carries.figures;
+        put_hour(&figures, n, out, place);
+        place += n;
+        t += 1;
+    }
+}
+
+// DISTRIBUTION. The figures of every hour, hour by hour and within an hour party by party. Refuses 16, 4 (H, P, a share at its party), 6 and 9, in that
+// order.
+pub fn distribution(shares: &[u64], residuals: &[u32], out: &mut [i64]) -> Answer
+    ensures answer { λ r. ⌜ said r ≡ first (distributionChecks (now (shares .entry)) (now (residuals .entry)) (length (now (out .entry)))) ⌝ }
+    ensures contents { λ r. ⌜ now (out .exit) ≡ afterwards (said r) (distributionFigures (now (shares .entry)) (now (residuals .entry))) (now (out .entry)) ⌝ }
+{
+    let shaped = shape(out.len(), shares.len(), residuals.len());
+    let Answer::Done = shaped else {
+        return shaped;
+    };
+    let fitting = each_at_most_u64(shares, GREATEST_SHARE, Refusal::OutOfRange);
+    let Answer::Done = fitting else {
+        return fitting;
+    };
+    let weighed = w_in_range(shares);
+    let Answer::Done = weighed else {
+        return weighed;
+    };
+    let limited = each_at_most_u32(residuals, GREATEST_RESIDUAL, Refusal::ResidualTooLarge);
+    let Answer::Done = limited else {
+        return limited;
+    };
+    distribute(shares, residuals, out);
+    Answer::Done
+}
