@@ -12,4 +12,4 @@ pub mod Month
 pub mod WorkedCases
 pub mod WorkedMonths
 pub mod WorkedServices
-pub mod Layout
+pub mod Places

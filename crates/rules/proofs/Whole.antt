@@ -104,20 +104,20 @@ heading-facts h e =
     record { area = within-is 1 greatestArea (h .area) (t1 .0); year = within-is earliestYear latestYear (h .year) (t1 .1); month = within-is 1 monthsOfAYear (h .month) (t2 .1); hours = within-is 1 mostHours (h .hours) (t3 .1); parties = within-is 1 mostParties (h .parties) (t4 .1); carrier = ltb-true (h .carrier) (h .parties) (t5 .1) }
 
 -- How many of each kind there are, of a file of h hours and p parties: a parties, f fixed and r refixed hours, q prices, g readings.
-record Counts (h p a f r q g : ℕ) : Type 0 where
-  parties : a ≤ p
-  fixed : f ≤ h
-  refixed : r ≤ h
-  prices : q ≤ h
-  parties-first : 0 < f → a ≡ p
-  fixed-first : 0 < r → f ≡ h
-  fixed-priced : 0 < q → f ≡ h
-  refixed-priced : 0 < q → 0 < r → r ≡ h
-  prices-first : 0 < g → (q ≡ h) × (0 < h)
-  headed : h ≡ 0 → p ≡ 0
+pub record Counts (h p a f r q g : ℕ) : Type 0 where
+  pub parties : a ≤ p
+  pub fixed : f ≤ h
+  pub refixed : r ≤ h
+  pub prices : q ≤ h
+  pub parties-first : 0 < f → a ≡ p
+  pub fixed-first : 0 < r → f ≡ h
+  pub fixed-priced : 0 < q → f ≡ h
+  pub refixed-priced : 0 < q → 0 < r → r ≡ h
+  pub prices-first : 0 < g → (q ≡ h) × (0 < h)
+  pub headed : h ≡ 0 → p ≡ 0
 
 module _ {h p a f r q g : ℕ} (c : Counts h p a f r q g) where
-  before-the-heading : h ≡ 0 → (a ≡ 0) × (f ≡ 0) × (r ≡ 0) × (q ≡ 0) × (g ≡ 0)
+  pub before-the-heading : h ≡ 0 → (a ≡ 0) × (f ≡ 0) × (r ≡ 0) × (q ≡ 0) × (g ≡ 0)
   before-the-heading z = (
     omega (arith, c .parties, c .headed z),
     omega (arith, c .fixed),
@@ -154,14 +154,14 @@ nothing-counted : Counts 0 0 0 0 0 0 0
 nothing-counted =
     record { parties = zero-le; fixed = zero-le; refixed = zero-le; prices = zero-le; parties-first = λ x. refl; fixed-first = λ x. refl; fixed-priced = λ x. refl; refixed-priced = λ x y. refl; prices-first = λ x. absurd (omega arith); headed = λ z. refl }
 
-record Sound (m : MonthFile) : Type 0 where
-  counts : Counts (H m) (P m) (length (m .parties)) (length (m .fixed)) (length (m .refixed)) (length (m .prices)) (length (m .readings))
-  head : 0 < H m → HeadingRight (m .heading)
-  parties : Every PartyRight (m .parties)
-  fixed : Every FlowsRight (m .fixed)
-  refixed : Every FlowsRight (m .refixed)
-  prices : Every PriceRight (m .prices)
-  readings : Every (ReadingRight (H m) (P m)) (m .readings)
+pub record Sound (m : MonthFile) : Type 0 where
+  pub counts : Counts (H m) (P m) (length (m .parties)) (length (m .fixed)) (length (m .refixed)) (length (m .prices)) (length (m .readings))
+  pub head : 0 < H m → HeadingRight (m .heading)
+  pub parties : Every PartyRight (m .parties)
+  pub fixed : Every FlowsRight (m .fixed)
+  pub refixed : Every FlowsRight (m .refixed)
+  pub prices : Every PriceRight (m .prices)
+  pub readings : Every (ReadingRight (H m) (P m)) (m .readings)
 
 -- The month that a whole file gives.
 pub record Whole (m : MonthFile) : Type 0 where
@@ -176,7 +176,7 @@ pub record Whole (m : MonthFile) : Type 0 where
   pub prices : Every PriceRight (m .prices)
   pub readings : Every (ReadingRight (H m) (P m)) (m .readings)
 
-nothing-is-sound : Sound nothingYet
+pub nothing-is-sound : Sound nothingYet
 unfolding nothingYet H P
 nothing-is-sound =
     record { counts = nothing-counted; head = λ x. absurd (omega arith); parties = tt; fixed = tt; refixed = tt; prices = tt; readings = tt }
@@ -240,7 +240,7 @@ module _ (m : MonthFile) (s : Sound m) where
       record { head = s .head some; all-parties = s .counts .parties-first (omega arith); all-fixed = all-fixed; none-or-all-refixed = none-or-all; all-prices = all; parties = s .parties; fixed = s .fixed; refixed = s .refixed; prices = s .prices; readings = s .readings }
 
 -- A record of any kind that passes its checks.
-step : (m : MonthFile) → Sound m → (r : Record) → due m r ≡ true → inRange (H m) (P m) r ≡ true → glnRight r ≡ true → spanRight (H m) r ≡ true → energyRight r ≡ true → Sound (with m r)
+pub step : (m : MonthFile) → Sound m → (r : Record) → due m r ≡ true → inRange (H m) (P m) r ≡ true → glnRight r ≡ true → spanRight (H m) r ≡ true → energyRight r ≡ true → Sound (with m r)
 unfolding with
 step m s (heading h) d e g w x = with-heading m s h d e
 step m s (party p) d e g w x = with-party m s p d e g
@@ -250,15 +250,15 @@ step m s (price hour z) d e g w x = with-price m s hour z d e
 step m s (refixedHour hour f) d e g w x = with-refixed m s hour f d e
 step m s (end count) d e g w x = s
 
-given-not-refusal : {m : MonthFile} {r : Refusal} {place : ℕ} → refusal r place ≡ given m → ⊥
+pub given-not-refusal : {m : MonthFile} {r : Refusal} {place : ℕ} → refusal r place ≡ given m → ⊥
 given-not-refusal e = let z : _≡_ {A = ℕ} 0 1 = cc in omega arith
 
-went-on : (v : Verdict) (rest : Answer MonthFile) {m : MonthFile} → onward v rest ≡ given m → (v ≡ accepted) × (rest ≡ given m)
+pub went-on : (v : Verdict) (rest : Answer MonthFile) {m : MonthFile} → onward v rest ≡ given m → (v ≡ accepted) × (rest ≡ given m)
 unfolding onward
 went-on accepted rest e = (refl, e)
 went-on (refused r place) rest e = absurd (given-not-refusal e)
 
-closed-gives : (m : MonthFile) (n : ℕ) (bytes : List ℕ) {m′ : MonthFile} → closed m n bytes ≡ given m′ → m ≡ m′
+pub closed-gives : (m : MonthFile) (n : ℕ) (bytes : List ℕ) {m′ : MonthFile} → closed m n bytes ≡ given m′ → m ≡ m′
 unfolding closed
 closed-gives m n [] e = cc
 closed-gives m n (byte ∷ bytes) e = absurd (given-not-refusal e)

@@ -1,0 +1,273 @@
+-- Where each record of a file stands: a file that is read has its heading at 0, then the parties, the fixed hours, the refixed hours, the prices and the
+-- readings, each kind at a fixed distance. What has been read so far takes up as many bytes as its records have.
+use mathlib.Core.Bool.{Bool, true, false, cond, _&&_, _||_}
+use mathlib.Core.List.{List, [], _∷_, _++_}
+use mathlib.Core.Logic.{_⊎_, inl, inr, ⊎-elim}
+use mathlib.Core.Path.{_≡_, refl, sym, _∙_, ap, ap₂, subst}
+use Prim.Native.Nat.{ℕ, zero, suc, _+_, _-_, _*_, _≤_, _<_, zero-le}
+use native.Mathlib.Nat.{not-suc-le-zero, le-of-suc-le-suc, eq-zero-or-pos, eq-or-lt-of-le}
+use native.Mathlib.Omega.{arith}
+use borrow.Author.Tests.{ltb-true, leb-true, eqb-true}
+use lib.Dec.{eqb, leb, ltb}
+use lib.IntN.{ℤ, pos}
+use lib.ListN.{length, getD, drop, length-append, length-drop, List·getD-append}
+use lib.Seq.{drop-drop, getD-at}
+use Rattle.rules.specs.Flows.{Flows}
+use Rattle.rules.specs.MonthFile.{MonthFile, nothingYet, H, P, due, recordChecks, with, isEnd, closed, onward, readOn, readMonth}
+use Rattle.rules.specs.Record.{Heading, Party, Reading, Record, heading, party, fixedHour, reading, price, refixedHour, end, known, kindAt, fieldWidths, cutInto, recordFrom, recordAt, bodyLength, inRange, glnRight, spanRight, energyRight, fieldChecks}
+use Rattle.rules.specs.Refusals.{fileFault, Answer, given, refusal, first}
+use Rattle.rules.specs.Limits.{longestFile}
+use Rattle.rules.specs.Words.{at, within}
+use Rattle.rules.proofs.Whole.{Counts, Sound, before-the-heading, both-pass, heading-facts, step, nothing-is-sound, given-not-refusal, went-on, closed-gives}
+use Rattle.rules.proofs.Refusals.{accepted-exactly, unless-exactly}
+
+-- how long the body of a record is, by its kind
+abbrev pub lengthOf : Record → ℕ
+lengthOf (heading h) = 9
+lengthOf (party p) = 21
+lengthOf (fixedHour hour f) = 35
+lengthOf (reading r) = 9
+lengthOf (price hour p) = 6
+lengthOf (refixedHour hour f) = 35
+lengthOf (end count) = 4
+
+not-known : (k : ℕ) → known (suc (suc (suc (suc (suc (suc (suc (suc k)))))))) ≡ true → ⊥
+unfolding known bodyLength at
+not-known k e = let z : _≡_ {A = ℕ} 0 1 = cc in omega arith
+
+pub length-of-record : (kind : ℕ) (fields : List (List ℕ)) → known kind ≡ true → bodyLength kind ≡ lengthOf (recordFrom kind fields)
+unfolding bodyLength at recordFrom known
+length-of-record zero fields e = absurd (let z : _≡_ {A = ℕ} 0 1 = cc in omega arith)
+length-of-record (suc zero) fields e = refl
+length-of-record (suc (suc zero)) fields e = refl
+length-of-record (suc (suc (suc zero))) fields e = refl
+length-of-record (suc (suc (suc (suc zero)))) fields e = refl
+length-of-record (suc (suc (suc (suc (suc zero))))) fields e = refl
+length-of-record (suc (suc (suc (suc (suc (suc zero)))))) fields e = refl
+length-of-record (suc (suc (suc (suc (suc (suc (suc zero))))))) fields e = refl
+length-of-record (suc (suc (suc (suc (suc (suc (suc (suc k)))))))) fields e = absurd (not-known k e)
+
+-- a record of the file that stands at an offset
+pub record Standing (file : List ℕ) (offset : ℕ) (r : Record) : Type 0 where
+  pub is : recordAt (drop offset file) ≡ r
+  pub known-kind : known (kindAt (drop offset file)) ≡ true
+  pub fits : offset + (1 + lengthOf r) ≤ length file
+
+-- the members of a list stand one after the other, at these offsets, as these records
+abbrev pub Row : {A : Type 0} → List ℕ → (ℕ → ℕ) → (ℕ → A → Record) → List A → Type 0
+Row {A} file offset mk l = (k : ℕ) → k < length l → (d : A) → Standing file (offset k) (mk k (getD l k d))
+
+row-none : {A : Type 0} (file : List ℕ) (offset : ℕ → ℕ) (mk : ℕ → A → Record) (l : List A) → length l ≡ 0 → Row file offset mk l
+row-none file offset mk l e k b d = absurd (omega arith)
+
+row-more : {A : Type 0} (file : List ℕ) (offset : ℕ → ℕ) (mk : ℕ → A → Record) (l : List A) (x : A) → Row file offset mk l → Standing file (offset (length l)) (mk (length l) x) → Row file offset mk (l ++ (x ∷ []))
+row-more {A} file offset mk l x row new k b d =
+    ⊎-elim
+    (λ (e : k ≡ length l).
+    subst (λ (j : ℕ). Standing file (offset j) (mk j (getD (l ++ (x ∷ [])) j d))) (sym e)
+    (rw (getD-at l x [] d (length l) refl) new))
+    (λ (c : k < length l). rw (List·getD-append l (x ∷ []) d k c) (row k c d))
+    (eq-or-lt-of-le (omega (arith, length-append l (x ∷ []))))
+
+-- the offsets, in a file of so many parties, hours and refixed hours
+abbrev pub partyOffset : ℕ → ℕ
+partyOffset k = 10 + 22 * k
+
+abbrev pub fixedOffset : ℕ → ℕ → ℕ
+fixedOffset parties k = 10 + 22 * parties + 36 * k
+
+abbrev pub refixedOffset : ℕ → ℕ → ℕ → ℕ
+refixedOffset parties hours k = 10 + 22 * parties + 36 * hours + 36 * k
+
+abbrev pub priceOffset : ℕ → ℕ → ℕ → ℕ → ℕ
+priceOffset parties hours refixed k = 10 + 22 * parties + 36 * hours + 36 * refixed + 7 * k
+
+abbrev pub readingOffset : ℕ → ℕ → ℕ → ℕ → ℕ
+readingOffset parties hours refixed k = 10 + 22 * parties + 36 * hours + 36 * refixed + 7 * hours + 10 * k
+
+-- each record without the number that it need not be told
+abbrev asParty : ℕ → Party → Record
+asParty k p = party p
+
+abbrev asReading : ℕ → Reading → Record
+asReading k r = reading r
+
+-- What has been read so far of a file, up to an offset.
+pub record Placed (file : List ℕ) (m : MonthFile) (offset : ℕ) : Type 0 where
+  pub at-start : H m ≡ 0 → offset ≡ 0
+  pub so-far : 0 < H m → offset ≡ 10 + 22 * length (m .parties) + 36 * length (m .fixed) + 36 * length (m .refixed) + 7 * length (m .prices) + 10 * length (m .readings)
+  pub head : 0 < H m → Standing file 0 (heading (m .heading))
+  pub parties : Row file partyOffset asParty (m .parties)
+  pub fixed : Row file (fixedOffset (P m)) fixedHour (m .fixed)
+  pub refixed : Row file (refixedOffset (P m) (H m)) refixedHour (m .refixed)
+  pub prices : Row file (priceOffset (P m) (H m) (length (m .refixed))) price (m .prices)
+  pub readings : Row file (readingOffset (P m) (H m) (length (m .refixed))) asReading (m .readings)
+
+nothing-is-placed : (file : List ℕ) → Placed file nothingYet 0
+unfolding nothingYet H P
+nothing-is-placed file =
+    record { at-start = λ e. refl; so-far = λ b. absurd (omega arith); head = λ b. absurd (omega arith); parties = row-none file partyOffset asParty [] refl; fixed = row-none file (fixedOffset 0) fixedHour [] refl; refixed = row-none file (refixedOffset 0 0) refixedHour [] refl; prices = row-none file (priceOffset 0 0 0) price [] refl; readings = row-none file (readingOffset 0 0 0) asReading [] refl }
+
+one-longer : {A : Type 0} (l : List A) (x : A) → length (l ++ (x ∷ [])) ≡ length l + 1
+one-longer l x = length-append l (x ∷ [])
+
+-- What the counts say where a record is due.
+module _ {h p a f r q g : ℕ} (c : Counts h p a f r q g) where
+  none-of : (n : ℕ) → (0 < n → ⊥) → n ≡ 0
+  none-of n not = ⊎-elim (λ (z : n ≡ 0). z) (λ (b : 0 < n). absurd (not b)) (eq-zero-or-pos n)
+
+  some-hours : 0 < p → 0 < h
+  some-hours b = ⊎-elim (λ (z : h ≡ 0). absurd (omega (arith, c .headed z))) (λ (s : 0 < h). s) (eq-zero-or-pos h)
+
+  parties-due : a < p → (0 < h) × (f ≡ 0) × (r ≡ 0) × (q ≡ 0) × (g ≡ 0)
+  parties-due b =
+      let some : 0 < h = some-hours (omega arith) in
+      let no-fixed : f ≡ 0 = none-of f (λ x. omega (arith, c .parties-first x)) in
+      let no-prices : q ≡ 0 = none-of q (λ x. omega (arith, c .fixed-priced x)) in
+      (some, no-fixed, none-of r (λ x. omega (arith, c .fixed-first x)), no-prices, none-of g (λ x. omega (arith, c .prices-first x .0)))
+
+  fixed-due : f < h → (r ≡ 0) × (q ≡ 0) × (g ≡ 0)
+  fixed-due b =
+      let no-prices : q ≡ 0 = none-of q (λ x. omega (arith, c .fixed-priced x)) in
+      (none-of r (λ x. omega (arith, c .fixed-first x)), no-prices, none-of g (λ x. omega (arith, c .prices-first x .0)))
+
+  all-parties : f ≡ h → 0 < h → a ≡ p
+  all-parties e b = c .parties-first (omega arith)
+
+  no-readings : q < h → g ≡ 0
+  no-readings b = none-of g (λ x. omega (arith, c .prices-first x .0))
+
+  all-fixed : q ≡ h → 0 < h → f ≡ h
+  all-fixed e b = c .fixed-priced (omega arith)
+
+-- One record more, of each kind.
+module _ (file : List ℕ) (m : MonthFile) (s : Sound m) (offset : ℕ) (p : Placed file m offset) where
+  place-heading : (h : Heading) → due m (heading h) ≡ true → 0 < h .hours → Standing file offset (heading h) → Placed file (with m (heading h)) (offset + 10)
+  unfolding due with H P
+  place-heading h d some here =
+      let none = before-the-heading (s .counts) (eqb-true (m .heading .hours) 0 d) in
+      let start : offset ≡ 0 = p .at-start (eqb-true (m .heading .hours) 0 d) in
+      record { at-start = λ e. absurd (omega arith); so-far = λ b. omega (arith, none .0, none .1, none .2, none .3, none .4); head = λ b. subst (λ (o : ℕ). Standing file o (heading h)) start here; parties = row-none file partyOffset asParty (m .parties) (none .0); fixed = row-none file (fixedOffset (h .parties)) fixedHour (m .fixed) (none .1); refixed = row-none file (refixedOffset (h .parties) (h .hours)) refixedHour (m .refixed) (none .2); prices = row-none file (priceOffset (h .parties) (h .hours) (length (m .refixed))) price (m .prices) (none .3); readings = row-none file (readingOffset (h .parties) (h .hours) (length (m .refixed))) asReading (m .readings) (none .4) }
+
+  place-party : (x : Party) → due m (party x) ≡ true → Standing file offset (party x) → Placed file (with m (party x)) (offset + 22)
+  unfolding due with H P
+  place-party x d here =
+      let none = parties-due (s .counts) (ltb-true (length (m .parties)) (P m) d) in
+      let there : offset ≡ partyOffset (length (m .parties)) = omega (arith, p .so-far (none .0), none .1, none .2, none .3, none .4) in
+      record { at-start = λ e. absurd (omega (arith, none .0)); so-far = λ b. omega (arith, one-longer (m .parties) x, p .so-far b); head = p .head; parties = row-more file partyOffset asParty (m .parties) x (p .parties) (subst (λ (o : ℕ). Standing file o (party x)) there here); fixed = p .fixed; refixed = p .refixed; prices = p .prices; readings = p .readings }
+
+  place-fixed : (hour : ℕ) (x : Flows) → due m (fixedHour hour x) ≡ true → Standing file offset (fixedHour hour x) → Placed file (with m (fixedHour hour x)) (offset + 36)
+  unfolding due with H P
+  place-fixed hour x d here =
+      let outer = both-pass (eqb (length (m .parties)) (P m) && ltb (length (m .fixed)) (H m)) (eqb hour (length (m .fixed))) d in
+      let inner = both-pass (eqb (length (m .parties)) (P m)) (ltb (length (m .fixed)) (H m)) (outer .0) in
+      let all : length (m .parties) ≡ P m = eqb-true (length (m .parties)) (P m) (inner .0) in
+      let more : length (m .fixed) < H m = ltb-true (length (m .fixed)) (H m) (inner .1) in
+      let none = fixed-due (s .counts) more in
+      let there : offset ≡ fixedOffset (P m) (length (m .fixed)) = omega (arith, p .so-far (omega arith), none .0, none .1, none .2) in
+      record { at-start = λ e. absurd (omega arith); so-far = λ b. omega (arith, one-longer (m .fixed) x, p .so-far b); head = p .head; parties = p .parties; fixed = row-more file (fixedOffset (P m)) fixedHour (m .fixed) x (p .fixed) (subst (λ (o : ℕ). Standing file o (fixedHour (length (m .fixed)) x)) there (subst (λ (t : ℕ). Standing file offset (fixedHour t x)) (eqb-true hour (length (m .fixed)) (outer .1)) here)); refixed = p .refixed; prices = p .prices; readings = p .readings }
+
+  place-refixed : (hour : ℕ) (x : Flows) → due m (refixedHour hour x) ≡ true → Standing file offset (refixedHour hour x) → Placed file (with m (refixedHour hour x)) (offset + 36)
+  unfolding due with H P
+  place-refixed hour x d here =
+      let outer = both-pass (eqb (length (m .fixed)) (H m) && ltb (length (m .refixed)) (H m) && eqb (length (m .prices)) 0) (eqb hour (length (m .refixed))) d in
+      let middle = both-pass (eqb (length (m .fixed)) (H m) && ltb (length (m .refixed)) (H m)) (eqb (length (m .prices)) 0) (outer .0) in
+      let inner = both-pass (eqb (length (m .fixed)) (H m)) (ltb (length (m .refixed)) (H m)) (middle .0) in
+      let all : length (m .fixed) ≡ H m = eqb-true (length (m .fixed)) (H m) (inner .0) in
+      let more : length (m .refixed) < H m = ltb-true (length (m .refixed)) (H m) (inner .1) in
+      let no-prices : length (m .prices) ≡ 0 = eqb-true (length (m .prices)) 0 (middle .1) in
+      let no-more : length (m .readings) ≡ 0 = no-readings (s .counts) (omega arith) in
+      let everyone : length (m .parties) ≡ P m = all-parties (s .counts) all (omega arith) in
+      let there : offset ≡ refixedOffset (P m) (H m) (length (m .refixed)) = omega (arith, p .so-far (omega arith)) in
+      record { at-start = λ e. absurd (omega arith); so-far = λ b. omega (arith, one-longer (m .refixed) x, p .so-far b); head = p .head; parties = p .parties; fixed = p .fixed; refixed = row-more file (refixedOffset (P m) (H m)) refixedHour (m .refixed) x (p .refixed) (subst (λ (o : ℕ). Standing file o (refixedHour (length (m .refixed)) x)) there (subst (λ (t : ℕ). Standing file offset (refixedHour t x)) (eqb-true hour (length (m .refixed)) (outer .1)) here)); prices = row-none file (priceOffset (P m) (H m) (length (m .refixed ++ (x ∷ [])))) price (m .prices) no-prices; readings = row-none file (readingOffset (P m) (H m) (length (m .refixed ++ (x ∷ [])))) asReading (m .readings) no-more }
+
+  place-price : (hour : ℕ) (x : ℤ) → due m (price hour x) ≡ true → Standing file offset (price hour x) → Placed file (with m (price hour x)) (offset + 7)
+  unfolding due with H P
+  place-price hour x d here =
+      let outer = both-pass (eqb (length (m .fixed)) (H m) && (eqb (length (m .refixed)) 0 || eqb (length (m .refixed)) (H m)) && ltb (length (m .prices)) (H m)) (eqb hour (length (m .prices))) d in
+      let middle = both-pass (eqb (length (m .fixed)) (H m) && (eqb (length (m .refixed)) 0 || eqb (length (m .refixed)) (H m))) (ltb (length (m .prices)) (H m)) (outer .0) in
+      let inner = both-pass (eqb (length (m .fixed)) (H m)) (eqb (length (m .refixed)) 0 || eqb (length (m .refixed)) (H m)) (middle .0) in
+      let all : length (m .fixed) ≡ H m = eqb-true (length (m .fixed)) (H m) (inner .0) in
+      let more : length (m .prices) < H m = ltb-true (length (m .prices)) (H m) (middle .1) in
+      let no-more : length (m .readings) ≡ 0 = no-readings (s .counts) more in
+      let everyone : length (m .parties) ≡ P m = all-parties (s .counts) all (omega arith) in
+      let there : offset ≡ priceOffset (P m) (H m) (length (m .refixed)) (length (m .prices)) = omega (arith, p .so-far (omega arith)) in
+      record { at-start = λ e. absurd (omega arith); so-far = λ b. omega (arith, one-longer (m .prices) x, p .so-far b); head = p .head; parties = p .parties; fixed = p .fixed; refixed = p .refixed; prices = row-more file (priceOffset (P m) (H m) (length (m .refixed))) price (m .prices) x (p .prices) (subst (λ (o : ℕ). Standing file o (price (length (m .prices)) x)) there (subst (λ (t : ℕ). Standing file offset (price t x)) (eqb-true hour (length (m .prices)) (outer .1)) here)); readings = p .readings }
+
+  place-reading : (x : Reading) → due m (reading x) ≡ true → Standing file offset (reading x) → Placed file (with m (reading x)) (offset + 10)
+  unfolding due with H P
+  place-reading x d here =
+      let tests = both-pass (leb 1 (H m)) (eqb (length (m .prices)) (H m)) d in
+      let some : 1 ≤ H m = leb-true 1 (H m) (tests .0) in
+      let priced : length (m .prices) ≡ H m = eqb-true (length (m .prices)) (H m) (tests .1) in
+      let all : length (m .fixed) ≡ H m = all-fixed (s .counts) priced some in
+      let everyone : length (m .parties) ≡ P m = all-parties (s .counts) all some in
+      let there : offset ≡ readingOffset (P m) (H m) (length (m .refixed)) (length (m .readings)) = omega (arith, p .so-far some) in
+      record { at-start = λ e. absurd (omega arith); so-far = λ b. omega (arith, one-longer (m .readings) x, p .so-far b); head = p .head; parties = p .parties; fixed = p .fixed; refixed = p .refixed; prices = p .prices; readings = row-more file (readingOffset (P m) (H m) (length (m .refixed))) asReading (m .readings) x (p .readings) (subst (λ (o : ℕ). Standing file o (reading x)) there here) }
+
+-- a record of any kind but the end
+pub place : (file : List ℕ) (m : MonthFile) → Sound m → (offset : ℕ) → Placed file m offset → (r : Record) → isEnd r ≡ false → due m r ≡ true → inRange (H m) (P m) r ≡ true → Standing file offset r → Placed file (with m r) (offset + (1 + lengthOf r))
+unfolding isEnd H P inRange
+place file m s offset p (heading h) e d i here = place-heading file m s offset p h d (heading-facts h i .hours .0) here
+place file m s offset p (party x) e d i here = place-party file m s offset p x d here
+place file m s offset p (fixedHour hour x) e d i here = place-fixed file m s offset p hour x d here
+place file m s offset p (reading x) e d i here = place-reading file m s offset p x d here
+place file m s offset p (price hour x) e d i here = place-price file m s offset p hour x d here
+place file m s offset p (refixedHour hour x) e d i here = place-refixed file m s offset p hour x d here
+place file m s offset p (end count) e d i here = absurd (let z : _≡_ {A = ℕ} 0 1 = cc in omega arith)
+
+-- where a record stands that passed 2 and 1
+pub here-stands : (file : List ℕ) (offset kind : ℕ) (body : List ℕ) → drop offset file ≡ kind ∷ body → known kind ≡ true → 1 + bodyLength kind ≤ length (kind ∷ body) → Standing file offset (recordAt (kind ∷ body))
+unfolding kindAt at recordAt
+here-stands file offset kind body e k b =
+    let size : length (drop offset file) ≡ length file - offset = length-drop offset file in
+    let same : length (drop offset file) ≡ suc (length body) = ap length e in
+    record { is = ap recordAt e; known-kind = rw e k; fits = omega (arith, length-of-record kind (cutInto (fieldWidths kind) body) k) }
+
+-- the bytes after it
+pub bytes-after : (file : List ℕ) (offset kind : ℕ) (body : List ℕ) → drop offset file ≡ kind ∷ body → known kind ≡ true → drop (bodyLength kind) body ≡ drop (offset + (1 + lengthOf (recordAt (kind ∷ body)))) file
+unfolding kindAt at recordAt
+bytes-after file offset kind body e k =
+    let longer : 1 + lengthOf (recordAt (kind ∷ body)) ≡ suc (bodyLength kind) = omega (arith, length-of-record kind (cutInto (fieldWidths kind) body) k) in
+    ap (drop (suc (bodyLength kind))) (sym e) ∙ drop-drop (suc (bodyLength kind)) offset file
+    ∙ ap (λ (l : ℕ). drop (offset + l) file) (sym longer)
+
+end-or-not : (r : Record) → (isEnd r ≡ true) ⊎ (isEnd r ≡ false)
+end-or-not r = go (isEnd r) refl
+  where
+    go : (t : Bool) → isEnd r ≡ t → (isEnd r ≡ true) ⊎ (isEnd r ≡ false)
+    go true e = inl e
+    go false e = inr e
+
+read-on-placed : (file : List ℕ) (more : ℕ) (bytes : List ℕ) (n : ℕ) (m : MonthFile) (offset : ℕ) → drop offset file ≡ bytes → Sound m → Placed file m offset → {m′ : MonthFile} → readOn more bytes n m ≡ given m′ → (o : ℕ) × Placed file m′ o
+unfolding readOn recordChecks fieldChecks kindAt at
+read-on-placed file zero bytes n m offset here s p e = absurd (given-not-refusal e)
+read-on-placed file (suc more) [] n m offset here s p e = absurd (given-not-refusal e)
+read-on-placed file (suc more) (kind ∷ body) n m offset here s p {m′} e =
+    let r = recordAt (kind ∷ body) in
+    let on = went-on (first (recordChecks m n (kind ∷ body))) _ e in
+    let passed = accepted-exactly (recordChecks m n (kind ∷ body)) .0 (on .0) in
+    let k : known kind ≡ true = unless-exactly (known kind) _ _ .0 (passed .0) in
+    let b : 1 + bodyLength kind ≤ length (kind ∷ body) = leb-true (1 + bodyLength kind) (length (kind ∷ body)) (unless-exactly _ _ _ .0 (passed .1 .0)) in
+    let d : due m r ≡ true = unless-exactly (due m r) _ _ .0 (passed .1 .1 .0) in
+    let i : inRange (H m) (P m) r ≡ true = unless-exactly (inRange (H m) (P m) r) _ _ .0 (passed .1 .1 .1 .0) in
+    let s′ : Sound (with m r) = step m s r d i (unless-exactly (glnRight r) _ _ .0 (passed .1 .1 .1 .1 .0)) (unless-exactly (spanRight (H m) r) _ _ .0 (passed .1 .1 .1 .1 .1 .0)) (unless-exactly (energyRight r) _ _ .0 (passed .1 .1 .1 .1 .1 .1 .0)) in
+    ⊎-elim
+    (λ (z : isEnd r ≡ true).
+    let gives : closed m (suc n) (drop (bodyLength kind) body) ≡ given m′ = rw z at (on .1) in
+    (offset, subst (λ (x : MonthFile). Placed file x offset) (closed-gives m (suc n) (drop (bodyLength kind) body) gives) p))
+    (λ (z : isEnd r ≡ false).
+    let gives : readOn more (drop (bodyLength kind) body) (suc n) (with m r) ≡ given m′ = rw z at (on .1) in
+    read-on-placed file more (drop (bodyLength kind) body) (suc n) (with m r) (offset + (1 + lengthOf r))
+    (sym (bytes-after file offset kind body here k)) s′
+    (place file m s offset p r z d i (here-stands file offset kind body here k b)) gives)
+    (end-or-not r)
+
+of-the-right-length : (fits : Bool) (file : List ℕ) {m : MonthFile} → cond fits (readOn (length file) file 0 nothingYet) (refusal fileFault 0) ≡ given m → (o : ℕ) × Placed file m o
+of-the-right-length true file e = read-on-placed file (length file) file 0 nothingYet 0 refl nothing-is-sound (nothing-is-placed file) e
+of-the-right-length false file e = absurd (given-not-refusal e)
+
+-- THE RECORDS OF A FILE THAT IS READ STAND AT THEIR PLACES.
+pub what-is-read-is-placed : (file : List ℕ) {m : MonthFile} → readMonth file ≡ given m → (o : ℕ) × Placed file m o
+unfolding readMonth
+what-is-read-is-placed file e = of-the-right-length (within 1 longestFile (length file)) file e
