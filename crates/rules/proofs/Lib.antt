@@ -13,3 +13,4 @@ pub mod WorkedCases
 pub mod WorkedMonths
 pub mod WorkedServices
 pub mod Places
+pub mod RoundTrip

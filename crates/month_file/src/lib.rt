@@ -1,0 +1,134 @@
+// A whole month file, read record by record (01 "The month file" and "Refusal numbers"). One pass over the bytes: each record is decoded once and judged by
+// 2, 1, 3, 4, 5, 11, 12, 15 before the next is looked at. What is kept is where the reading stands, a struct by value.
+use answer::{Answer, Refusal};
+use gln::Gln;
+use record::{Heading, Record};
+
+ghost use mathlib.Core.Bool.{_&&_};
+ghost use mathlib.Core.Path.{_≡_};
+ghost use Prim.Native.Nat.{_+_, _*_, _≤_, _<_};
+ghost use lib.ListN.{length};
+ghost use Rattle.month_file.specs.Walk.{startOf, dueIn, risesIn, numberIn, withIn, Few};
+
+
+// "At most 65,536 bytes."
+const LONGEST_FILE: usize = 65536;
+
+// How far the reading of a file has come: the records before, the heading (H and P are 0 until it is read), how many of each kind, and the number of the
+// last GLN.
+pub struct Walk {
+    pub records: usize,
+    pub heading: Heading,
+    pub parties: usize,
+    pub fixed: usize,
+    pub refixed: usize,
+    pub prices: usize,
+    pub readings: usize,
+    pub last_gln: u64,
+}
+
+// What one record does: the reading goes on so many bytes further, ends, or is refused.
+pub enum Step {
+    Next(Walk, usize),
+    End,
+    Refused(Refusal, usize),
+}
+
+// An accepted file: its heading, how many refixed hours and readings it has, and where each section starts.
+pub struct Sections {
+    pub heading: Heading,
+    pub refixed: usize,
+    pub readings: usize,
+    pub parties_at: usize,
+    pub fixed_at: usize,
+    pub refixed_at: usize,
+    pub prices_at: usize,
+    pub readings_at: usize,
+}
+
+pub enum MonthRead {
+    Accepted(Sections),
+    Refused(Refusal, usize),
+}
+
+// Nothing read yet.
+fn start() -> Walk
+    ensures { λ w. ⌜ w ≡ startOf ⌝ }
+{
+    Walk {
+        records: 0,
+        heading: Heading {
+            area: 0,
+            year: 0,
+            month: 0,
+            hours: 0,
+            parties: 0,
+            carrier: 0,
+        },
+        parties: 0,
+        fixed: 0,
+        refixed: 0,
+        prices: 0,
+        readings: 0,
+        last_gln: 0,
+    }
+}
+
+// "Order: one 01; P times 02; H times 03; none or H times 06; H times 05; any number of 04; one 07. Hour fields run 0, 1, 2 and so on"
+fn due(w: Walk, r: Record) -> bool
+    ensures { λ d. ⌜ d ≡ dueIn w r ⌝ }
+{
+    let hours = w.heading.hours as usize;
+    let parties = w.heading.parties as usize;
+    match r {
+        Record::Heading(_) => hours == 0,
+        Record::Party(_) => w.parties < parties,
+        Record::FixedHour(hour, _) => (w.parties == parties) & (w.fixed < hours) & (hour as usize == w.fixed),
+        Record::Reading(_) => (1 <= hours) & (w.prices == hours),
+        Record::Price(hour, _) => (w.fixed == hours) & ((w.refixed == 0) | (w.refixed == hours)) & (w.prices < hours) & (hour as usize == w.prices),
+        Record::RefixedHour(hour, _) => (w.fixed == hours) & (w.refixed < hours) & (w.prices == 0) & (hour as usize == w.refixed),
+        Record::End(_) => (1 <= hours) & (w.prices == hours),
+    }
+}
+
+// "GLNs rise strictly.": asked of a party record whose GLN was found valid.
+fn rising(w: Walk, g: Gln) -> bool
+    ensures { λ d. ⌜ d ≡ risesIn w g ⌝ }
+{
+    match g {
+        Gln::Valid(number) => (w.parties == 0) | (w.last_gln < number),
+        Gln::Invalid => true,
+    }
+}
+
+// The number of a GLN that was found valid.
+fn number_of(g: Gln) -> u64
+    ensures { λ n. ⌜ n ≡ numberIn g ⌝ }
+{
+    match g {
+        Gln::Valid(number) => number,
+        Gln::Invalid => 0,
+    }
+}
+
+// Where the reading stands with one record more.
+fn with(w: Walk, r: Record, g: Gln) -> Walk
+    requires { ⌜ Few w ⌝ }
+    ensures { λ v. ⌜ v ≡ withIn w r g ⌝ }
+{
+    let mut v = w;
+    v.records = w.records + 1;
+    match r {
+        Record::Heading(h) => v.heading = h,
+        Record::Party(_) => {
+            v.parties = w.parties + 1;
+            v.last_gln = number_of(g);
+        }
+        Record::FixedHour(_, _) => v.fixed = w.fixed + 1,
+        Record::Reading(_) => v.readings = w.readings + 1,
+        Record::Price(_, _) => v.prices = w.prices + 1,
+        Record::RefixedHour(_, _) => v.refixed = w.refixed + 1,
+        Record::End(_) => {}
+    }
+    v
+}
