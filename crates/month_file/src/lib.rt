@@ -8,7 +8,7 @@ ghost use mathlib.Core.Bool.{_&&_};
 ghost use mathlib.Core.Path.{_≡_};
 ghost use Prim.Native.Nat.{_+_, _*_, _≤_, _<_};
 ghost use lib.ListN.{length};
-ghost use Rattle.month_file.specs.Walk.{startOf, dueIn, risesIn, numberIn, withIn, Few};
+ghost use Rattle.month_file.specs.Walk.{startOf, dueIn, risesIn, numberIn, withIn, Few, Steppable, Stepped, refusedBy, movedIn, countedIn, judgedIn};
 
 
 // "At most 65,536 bytes."
@@ -131,4 +131,79 @@ fn with(w: Walk, r: Record, g: Gln) -> Walk
         Record::End(_) => {}
     }
     v
+}
+
+impl Walk {
+    // One record, at the start of the bytes that are left: 2, 1, 3, 4, 5, 11, 12, 15.
+    pub fn step(self, rest: &[u8]) -> Step
+        requires { ⌜ Steppable self (now rest) ⌝ }
+        ensures { λ r. ⌜ Stepped self (now (rest .entry)) r ⌝ }
+    {
+        let records = self.records;
+        let size = record::body_length(rest[0]);
+        if size == 0 {
+            return Step::Refused(Refusal::UnknownKind, records);
+        }
+        if rest.len() <= size {
+            return Step::Refused(Refusal::FileFault, records);
+        }
+        let r = record::decode(rest);
+        if !due(self, r) {
+            return Step::Refused(Refusal::OutOfOrder, records);
+        }
+        let g = record::gln_in(gln::part_at(rest, 1), r);
+        let a = record::fault(r, g, self.heading.hours, self.heading.parties, records);
+        let Answer::Done = a else {
+            return refused_by(a);
+        };
+        if !rising(self, g) {
+            return Step::Refused(Refusal::GlnFault, records);
+        }
+        judged(self, r, g, size)
+    }
+}
+
+// A record's fault as the step's refusal.
+fn refused_by(a: Answer) -> Step
+    ensures { λ r. ⌜ r ≡ refusedBy a ⌝ }
+{
+    match a {
+        Answer::Done => Step::End,
+        Answer::Refused(x, place) => Step::Refused(x, place),
+    }
+}
+
+// The reading goes on: where it stands after the record, so many bytes further.
+fn moved(w: Walk, r: Record, g: Gln, size: usize) -> Step
+    requires { ⌜ (size ≤ 35) × Few w ⌝ }
+    ensures { λ s. ⌜ s ≡ movedIn w r g size ⌝ }
+{
+    Step::Next(with(w, r, g), size + 1)
+}
+
+// 15: "wrong count in the end record".
+fn counted(w: Walk, count: u32) -> Step
+    ensures { λ s. ⌜ s ≡ countedIn w count ⌝ }
+{
+    if count as usize == w.records {
+        Step::End
+    } else {
+        Step::Refused(Refusal::WrongCount, w.records)
+    }
+}
+
+// The last of a record's checks, and what it comes to.
+fn judged(w: Walk, r: Record, g: Gln, size: usize) -> Step
+    requires { ⌜ (size ≤ 35) × Few w ⌝ }
+    ensures { λ s. ⌜ s ≡ judgedIn w r g size ⌝ }
+{
+    match r {
+        Record::Heading(_) => moved(w, r, g, size),
+        Record::Party(_) => moved(w, r, g, size),
+        Record::FixedHour(_, _) => moved(w, r, g, size),
+        Record::Reading(_) => moved(w, r, g, size),
+        Record::Price(_, _) => moved(w, r, g, size),
+        Record::RefixedHour(_, _) => moved(w, r, g, size),
+        Record::End(count) => counted(w, count),
+    }
 }
