@@ -45,11 +45,11 @@ module _ (w : Walk) (bytes : List ℕ) (size : ℕ) (body : size ≡ R.bodyLengt
   one-further : (size + 1 ≡ 1 + R.bodyLength (R.kindAt bytes)) × (size + 1 ≤ length bytes)
   one-further = (omega (arith, body), omega arith)
 
-  end-is-short : (count : ℕ) → R.end count ≡ R.recordAt bytes → 5 ≤ length bytes
+  end-is-short : (count : ℕ) → R.end count ≡ R.recordAt bytes → (R.bodyLength (R.kindAt bytes) ≡ 4) × (5 ≤ length bytes)
   unfolding R.recordAt
   end-is-short count is =
       let four : R.bodyLength (R.kindAt bytes) ≡ 4 = length-of-record (R.kindAt bytes) (R.cutInto (R.fieldWidths (R.kindAt bytes)) (drop 1 bytes)) known ∙ ap lengthOf (sym is) in
-      omega (arith, body)
+      (four, omega (arith, body))
 
   moves-on : (x : Record) → recordOf (glnBytes bytes) x ≡ R.recordAt bytes → (v : Gln) → StepMoves w bytes (judgedIn w x v size)
   moves-on (Heading h) is v = (one-further .0, refl, omega (arith, c), one-further .1)

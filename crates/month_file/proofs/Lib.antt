@@ -1,2 +1,3 @@
 pub mod Stepping
 pub mod Exits
+pub mod Walking

@@ -107,7 +107,7 @@ StepMeans w bytes m (S.Refused r place) = first (recordChecks m (w .records) byt
 abbrev pub StepMoves : Walk → List ℕ → Step → Type 0
 StepMoves w bytes (S.Next v size) =
     (size ≡ 1 + RRecord.bodyLength (RRecord.kindAt bytes)) × (v .records ≡ w .records + 1) × Counted v × (size ≤ length bytes)
-StepMoves w bytes S.End = 5 ≤ length bytes
+StepMoves w bytes S.End = (RRecord.bodyLength (RRecord.kindAt bytes) ≡ 4) × (5 ≤ length bytes)
 StepMoves w bytes (S.Refused r place) = Unit
 
 pub record Stepped (w : Walk) (bytes : List ℕ) (r : Step) : Type 0 where
@@ -137,3 +137,28 @@ judgedIn w (Reading r) g size = movedIn w (Reading r) g size
 judgedIn w (Price hour p) g size = movedIn w (Price hour p) g size
 judgedIn w (RefixedHour hour f) g size = movedIn w (RefixedHour hour f) g size
 judgedIn w (End count) g size = countedIn w count
+
+-- where each section starts, of so many parties, hours and refixed hours: the heading has 10 bytes, a party 22, an hour 36, a price 7
+abbrev pub sectionsFor : CHeading.Heading → ℕ → ℕ → Sections
+sectionsFor h refixed readings =
+    record { heading = h; refixed = refixed; readings = readings; «parties_at» = 10; «fixed_at» = 10 + 22 * h .parties; «refixed_at» = 10 + 22 * h .parties + 36 * h .hours; «prices_at» = 10 + 22 * h .parties + 36 * h .hours + 36 * refixed; «readings_at» = 10 + 22 * h .parties + 36 * h .hours + 36 * refixed + 7 * h .hours }
+
+abbrev pub sectionsIn : Walk → Sections
+sectionsIn w = sectionsFor (w .heading) (w .refixed) (w .readings)
+
+-- the same of a month that was read
+unfoldable pub sectionsOf : MonthFile → Sections
+sectionsOf m =
+    sectionsFor
+    (record { area = m .heading .area; year = m .heading .year; month = m .heading .month; hours = m .heading .hours; parties = m .heading .parties; carrier = m .heading .carrier })
+    (length (m .refixed))
+    (length (m .readings))
+
+-- what the reading of a file tells, and what the rules give: the month's sections, or the refusal
+abbrev pub told : MonthRead → Answer Sections
+told (M.Accepted s) = given s
+told (M.Refused r place) = refusal (named r) place
+
+abbrev pub readAnswer : Answer MonthFile → Answer Sections
+readAnswer (given m) = given (sectionsOf m)
+readAnswer (refusal r place) = refusal r place

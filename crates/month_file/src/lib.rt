@@ -8,7 +8,8 @@ ghost use mathlib.Core.Bool.{_&&_};
 ghost use mathlib.Core.Path.{_≡_};
 ghost use Prim.Native.Nat.{_+_, _*_, _≤_, _<_};
 ghost use lib.ListN.{length};
-ghost use Rattle.month_file.specs.Walk.{startOf, dueIn, risesIn, numberIn, withIn, Few, Steppable, Stepped, refusedBy, movedIn, countedIn, judgedIn};
+ghost use Rattle.month_file.specs.Walk.{startOf, dueIn, risesIn, numberIn, withIn, Few, Steppable, Stepped, refusedBy, movedIn, countedIn, judgedIn, sectionsIn, told, readAnswer};
+ghost use Rattle.rules.specs.MonthFile.{readMonth};
 
 
 // "At most 65,536 bytes."
@@ -206,4 +207,63 @@ fn judged(w: Walk, r: Record, g: Gln, size: usize) -> Step
         Record::RefixedHour(_, _) => moved(w, r, g, size),
         Record::End(count) => counted(w, count),
     }
+}
+
+// Where each section of a file starts, by what was counted.
+fn laid_out(w: Walk) -> Sections
+    requires { ⌜ Few w ⌝ }
+    ensures { λ s. ⌜ s ≡ sectionsIn w ⌝ }
+{
+    let heading = w.heading;
+    let hours = heading.hours as usize;
+    let parties = heading.parties as usize;
+    let fixed_at = 10 + 22 * parties;
+    let refixed_at = fixed_at + 36 * hours;
+    let prices_at = refixed_at + 36 * w.refixed;
+    let readings_at = prices_at + 7 * hours;
+    Sections {
+        heading,
+        refixed: w.refixed,
+        readings: w.readings,
+        parties_at: 10,
+        fixed_at,
+        refixed_at,
+        prices_at,
+        readings_at,
+    }
+}
+
+// A WHOLE FILE, record by record. Refuses 1 where it is empty or too long, before all else; then each record by 2, 1, 3, 4, 5, 11, 12, 15; then 1 for a
+// missing end and for bytes after it, at the number of complete records.
+pub fn read(file: &[u8]) -> MonthRead
+    ensures { λ r. ⌜ told r ≡ readAnswer (readMonth (now (file .entry))) ⌝ }
+{
+    if file.len() < 1 {
+        return MonthRead::Refused(Refusal::FileFault, 0);
+    }
+    if LONGEST_FILE < file.len() {
+        return MonthRead::Refused(Refusal::FileFault, 0);
+    }
+    let mut w = start();
+    let mut at = 0;
+    while at < file.len() {
+        let rest = &file[at..];
+        let step = w.step(rest);
+        match step {
+            Step::Next(next, size) => {
+                w = next;
+                at += size;
+            }
+            Step::End => {
+                if rest.len() == 5 {
+                    return MonthRead::Accepted(laid_out(w));
+                }
+                return MonthRead::Refused(Refusal::FileFault, w.records + 1);
+            }
+            Step::Refused(x, place) => {
+                return MonthRead::Refused(x, place);
+            }
+        }
+    }
+    MonthRead::Refused(Refusal::FileFault, w.records)
 }
