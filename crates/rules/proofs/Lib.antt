@@ -12,3 +12,4 @@ pub mod Month
 pub mod WorkedCases
 pub mod WorkedMonths
 pub mod WorkedServices
+pub mod RoundTrip
