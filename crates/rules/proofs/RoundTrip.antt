@@ -194,7 +194,7 @@ bytes-joined (refixedHour hour f) more = simp append-assoc
 bytes-joined (end count) more = refl
 
 -- a valid GLN has thirteen digits
-both-true : (a b : Bool) → a && b ≡ true → (a ≡ true) × (b ≡ true)
+pub both-true : (a b : Bool) → a && b ≡ true → (a ≡ true) × (b ≡ true)
 both-true true b e = (refl, e)
 both-true false b e = let z : _≡_ {A = ℕ} 0 1 = cc in absurd (omega arith)
 

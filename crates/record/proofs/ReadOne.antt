@@ -1,0 +1,62 @@
+-- Reading one record alone: each test of the code is the next check of the rules, and past the tests of kind and length the rule of the fields decides.
+use mathlib.Core.Bool.{Bool, true, false, cond}
+use mathlib.Core.List.{List, [], _∷_}
+use mathlib.Core.Path.{_≡_, refl, sym, _∙_, ap}
+use Prim.Native.Nat.{ℕ, _+_, _≤_, _<_}
+use borrow.Author.Tests.{le-leb, lt-leb}
+use lib.ListN.{length}
+use Rattle.answer.specs.Said.{named, said}
+use Rattle.answer.specs.declared.Answer as A
+use Rattle.answer.specs.declared.Answer.the-variants.{Done, Refused}
+use Rattle.answer.specs.declared.Refusal as A′
+use Rattle.gln.specs.Gln.{glnPart}
+use Rattle.gln.specs.declared.Gln.{Gln}
+use Rattle.record.specs.Record.{Whole, recordOf, glnIn, glnBytes, faultOf}
+use Rattle.record.specs.declared.Record as C
+use Rattle.rules.specs.Record.{Record, bodyLength, known, kindAt, recordAt, fieldChecks, readAlone}
+use Rattle.rules.specs.Refusals.{Verdict, Answer, given, refusal, fileFault, unknownKind, unless, andThen, first, answer}
+use Rattle.record.proofs.Judging.{fault-is}
+
+module _ (s : List ℕ) where
+  pub nothing-there : length s < 1 → refusal fileFault 0 ≡ readAlone s
+  unfolding readAlone first andThen unless answer
+  nothing-there h = rw (lt-leb 1 (length s) h)
+
+  module _ (some : 1 ≤ length s) where
+    pub no-kind : bodyLength (kindAt s) < 1 → refusal unknownKind 0 ≡ readAlone s
+    unfolding readAlone first andThen unless answer known
+    no-kind h = rw (le-leb 1 (length s) some, lt-leb 1 (bodyLength (kindAt s)) h)
+
+    module _ (kind : 1 ≤ bodyLength (kindAt s)) where
+      pub cut-short : length s < 1 + bodyLength (kindAt s) → refusal fileFault 0 ≡ readAlone s
+      unfolding readAlone first andThen unless answer known
+      cut-short h =
+          rw (le-leb 1 (length s) some, le-leb 1 (bodyLength (kindAt s)) kind, lt-leb (1 + bodyLength (kindAt s)) (length s) h)
+
+      module _ (fits : 1 + bodyLength (kindAt s) ≤ length s) where
+        pub stands-whole : Whole s
+        unfolding known
+        stands-whole = record { known-kind = le-leb 1 (bodyLength (kindAt s)) kind; fits = fits }
+
+        judged : answer (first (fieldChecks 745 64 (recordAt s) 0)) (recordAt s) ≡ readAlone s
+        unfolding readAlone first andThen unless known
+        judged =
+            rw (le-leb 1 (length s) some, le-leb 1 (bodyLength (kindAt s)) kind, le-leb (1 + bodyLength (kindAt s)) (length s) fits)
+
+        -- what the rule of the fields says of the decoded record is the answer
+        module _ (r : C.Record) (decoded : recordOf (glnBytes s) r ≡ recordAt s) {part : List ℕ} (there : part ≡ glnPart s 1) {g : Gln} (tested : g ≡ glnIn part r) (a : A.Answer) (fault : said a ≡ faultOf 745 64 r g 0) where
+          told-by : answer (said a) (recordOf (glnBytes s) r) ≡ readAlone s
+          unfolding glnBytes
+          told-by =
+              ap (λ (v : Verdict). answer v (recordOf (glnBytes s) r))
+              (fault ∙ ap (λ (x : Gln). faultOf 745 64 r x 0) (tested ∙ ap (λ (l : List ℕ). glnIn l r) there) ∙ fault-is 745 64 (glnBytes s) r 0)
+              ∙ ap (λ (x : Record). answer (first (fieldChecks 745 64 x 0)) x) decoded
+              ∙ judged
+
+          pub whole-record : a ≡ Done → given (recordOf (glnBytes s) r) ≡ readAlone s
+          unfolding answer
+          whole-record e = ap (λ (x : A.Answer). answer (said x) (recordOf (glnBytes s) r)) (sym e) ∙ told-by
+
+          pub faulty-record : {x : A′.Refusal} {place : ℕ} → a ≡ Refused x place → refusal (named x) place ≡ readAlone s
+          unfolding answer
+          faulty-record e = ap (λ (x : A.Answer). answer (said x) (recordOf (glnBytes s) r)) (sym e) ∙ told-by
