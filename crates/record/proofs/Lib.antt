@@ -6,3 +6,5 @@ pub mod Decoding
 pub mod ReadOne
 pub mod Encoding
 pub mod WriteOne
+pub mod RoundTrip
+pub mod Unique
