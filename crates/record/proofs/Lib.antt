@@ -1,7 +1,7 @@
 pub mod Judging
 pub mod Bytes
 pub mod Complement
-pub mod Table
+pub mod EveryEntry
 pub mod Decoding
 pub mod ReadOne
 pub mod Encoding
