@@ -1,8 +1,10 @@
 pub mod Judging
 pub mod Bytes
 pub mod Complement
-pub mod Table
+pub mod EveryEntry
 pub mod Decoding
 pub mod ReadOne
 pub mod Encoding
 pub mod WriteOne
+pub mod RoundTrip
+pub mod Unique

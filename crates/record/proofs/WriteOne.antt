@@ -97,7 +97,7 @@ unfolding andThen
 then-room accepted = refl
 then-room (refused r place) = refl
 
-verdict-is : (r : Record) (out : List ℕ) → writeVerdict r (length out) ≡ andThen (first (fieldChecks 745 64 r 0)) (roomFor r out)
+pub verdict-is : (r : Record) (out : List ℕ) → writeVerdict r (length out) ≡ andThen (first (fieldChecks 745 64 r 0)) (roomFor r out)
 unfolding writeVerdict roomFor first
 verdict-is r out =
     first-append (fieldChecks 745 64 r 0) (unless (leb (length (recordBytes r)) (length out)) wrongLength 0 ∷ [])

@@ -450,7 +450,7 @@ module _ (body : List ℕ) (h : Bytes body) where
   fields-same (suc (suc (suc (suc (suc (suc (suc (suc k)))))))) e r = let z : _≡_ {A = ℕ} 0 1 = cc in absurd (omega arith)
 
 -- what a reading that gives a record says of the bytes
-given-by : {A : Type 0} (v : Verdict) (a b : A) → answer v a ≡ given b → (v ≡ accepted) × (a ≡ b)
+pub given-by : {A : Type 0} (v : Verdict) (a b : A) → answer v a ≡ given b → (v ≡ accepted) × (a ≡ b)
 unfolding answer
 given-by accepted a b e = (refl, cc)
 given-by (refused r place) a b e = let z : _≡_ {A = ℕ} 0 1 = cc in absurd (omega arith)

@@ -7,7 +7,7 @@ use lib.Dec.{eqb, eqb→eq}
 use lib.ListN.{getD, replicate}
 use Rattle.rules.specs.Record.{bodyLength}
 use Rattle.rules.specs.Words as Words
-use Rattle.record.proofs.Table.{at}
+use Rattle.record.proofs.EveryEntry.{at}
 use Rattle.record.proofs.body_length.Statement.{statement}
 use Rattle.record.proofs.body_length.Tie as tie
 

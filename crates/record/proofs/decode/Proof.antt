@@ -1,3 +1,4 @@
+-- `record::decode` meets its contract: each kind reads its own fields, and a known kind that is none of the first six is the end. Assumes nothing.
 use mir.Facts.{toZ-ofZ}
 use mir.Syntax.{w64}
 use mir.Val.{SFits}
@@ -9,96 +10,69 @@ use Rattle.record.proofs.Decoding.{stands, as-at, end-kind, party-is, f
 use borrow.Author.Needs.{needs}
 use Rattle.record.proofs.decode.Statement.{statement}
 use Rattle.record.proofs.decode.Tie as tie
-use Rattle.record.proofs.decode.Reads as reads
-use Rattle.record.proofs.decode.Lts as lts
-use Rattle.record.proofs.fields.number_at.Reads as number-at-reads
-use Rattle.record.proofs.fields.u16_at.Reads as u16-at-reads
-use Rattle.record.proofs.fields.u32_at.Reads as u32-at-reads
-use Rattle.record.proofs.flows_in.Reads as flows-in-reads
-use Rattle.record.proofs.heading_in.Reads as heading-in-reads
-use Rattle.record.proofs.price_in.Reads as price-in-reads
-use Rattle.record.proofs.reading_in.Reads as reading-in-reads
 
--- src/lib.rt:156:16
 shared-slice-read-kind : tie.Need-shared-slice-read-kind
 shared-slice-read-kind c = search needs
 
--- src/lib.rt:158:30
 heading-in-requires : tie.Need-heading-in-requires
 unfolding bodyLength at
 heading-in-requires c κs = omega (arith, stands (c .before .before .before .pre) 1 (c .match .keys1))
 
--- src/lib.rt:159:28
 number-at-requires : tie.Need-number-at-requires
 unfolding bodyLength at
 number-at-requires c κs = omega (arith, stands (c .before .before .before .pre) 2 (c .match .keys2))
 
--- src/lib.rt:160:32
 u16-at-requires : tie.Need-u16-at-requires
 unfolding bodyLength at
 u16-at-requires c κs = omega (arith, stands (c .before .before .before .pre) 3 (c .match .keys3))
 
--- src/lib.rt:160:57
 flows-in-requires : tie.Need-flows-in-requires
 unfolding bodyLength at
 flows-in-requires c κs = omega (arith, stands (c .before .before .before .before .pre) 3 (c .before .match .keys3))
 
--- src/lib.rt:161:30
 reading-in-requires : tie.Need-reading-in-requires
 unfolding bodyLength at
 reading-in-requires c κs = omega (arith, stands (c .before .before .before .pre) 4 (c .match .keys4))
 
--- src/lib.rt:162:28
 u16-at-requires-2 : tie.Need-u16-at-requires-2
 unfolding bodyLength at
 u16-at-requires-2 c κs = omega (arith, stands (c .before .before .before .pre) 5 (c .match .keys5))
 
--- src/lib.rt:162:53
 price-in-requires : tie.Need-price-in-requires
 unfolding bodyLength at
 price-in-requires c κs = omega (arith, stands (c .before .before .before .before .pre) 5 (c .before .match .keys5))
 
--- src/lib.rt:163:34
 u16-at-requires-3 : tie.Need-u16-at-requires-3
 unfolding bodyLength at
 u16-at-requires-3 c κs = omega (arith, stands (c .before .before .before .pre) 6 (c .match .keys6))
 
--- src/lib.rt:163:59
 flows-in-requires-2 : tie.Need-flows-in-requires-2
 unfolding bodyLength at
 flows-in-requires-2 c κs = omega (arith, stands (c .before .before .before .before .pre) 6 (c .before .match .keys6))
 
--- src/lib.rt:164:26
 u32-at-requires : tie.Need-u32-at-requires
 unfolding bodyLength at
 u32-at-requires c κs = omega (arith, stands (c .before .before .before .pre) 7 (end-kind (c .before .before .before .pre) (c .match .rest)))
 
--- src/lib.rt:152:1
 returns : tie.Need-returns
 returns c = c .heading-in .ensures ∙ as-at (c .before .before .before .before .pre) 1 (c .before .match .keys1)
 
--- src/lib.rt:152:1
 returns-2 : tie.Need-returns-2
 unfolding bodyLength at
 returns-2 c = rw (c .number-at .ensures .0) (party-is _ (omega (arith, stands (c .before .before .before .before .pre) 2 (c .before .match .keys2))) ∙ as-at (c .before .before .before .before .pre) 2 (c .before .match .keys2))
 
--- src/lib.rt:152:1
 returns-3 : tie.Need-returns-3
 returns-3 c = rw (c .before .u16-at .ensures, c .flows-in .ensures) (fixed-is _ ∙ as-at (c .before .before .before .before .before .pre) 3 (c .before .before .match .keys3))
 
--- src/lib.rt:152:1
 returns-4 : tie.Need-returns-4
 returns-4 c = c .reading-in .ensures ∙ as-at (c .before .before .before .before .pre) 4 (c .before .match .keys4)
 
--- src/lib.rt:152:1
 returns-5 : tie.Need-returns-5
 returns-5 c = let f : SFits w64 (c .price-in .result) = search needs in rw (toZ-ofZ f, c .before .u16-at2 .ensures, c .price-in .ensures) (price-is _ ∙ as-at (c .before .before .before .before .before .pre) 5 (c .before .before .match .keys5))
 
--- src/lib.rt:152:1
 returns-6 : tie.Need-returns-6
 returns-6 c = rw (c .before .u16-at3 .ensures, c .flows-in2 .ensures) (refixed-is _ ∙ as-at (c .before .before .before .before .before .pre) 6 (c .before .before .match .keys6))
 
--- src/lib.rt:152:1
 returns-7 : tie.Need-returns-7
 returns-7 c = rw (c .u32-at .ensures) (end-is _ ∙ as-at (c .before .before .before .before .pre) 7 (end-kind (c .before .before .before .before .pre) (c .before .match .rest)))
 

@@ -1,3 +1,4 @@
+-- `record::flows_in` meets its contract: each flow is read at its place. Assumes nothing.
 use mir.Facts.{toZ-ofZ}
 use mir.Syntax.{w64}
 use mir.Val.{SFits}
@@ -6,37 +7,25 @@ use Rattle.record.proofs.Decoding.{flows-is}
 use borrow.Author.Needs.{needs}
 use Rattle.record.proofs.flows_in.Statement.{statement}
 use Rattle.record.proofs.flows_in.Tie as tie
-use Rattle.record.proofs.flows_in.Reads as reads
-use Rattle.record.proofs.flows_in.Lts as lts
-use Rattle.record.proofs.fields.number_at.Reads as number-at-reads
-use Rattle.record.proofs.fields.signed.Reads as signed-reads
-use Rattle.record.proofs.fields.u8_at.Reads as u8-at-reads
 
--- src/lib.rt:124:17
 u8-at-requires : tie.Need-u8-at-requires
 u8-at-requires c κs = search needs
 
--- src/lib.rt:125:32
 number-at-requires : tie.Need-number-at-requires
 number-at-requires c κs = search needs
 
--- src/lib.rt:125:17
 signed-requires : tie.Need-signed-requires
 signed-requires c κs = search needs
 
--- src/lib.rt:126:24
 number-at-requires-2 : tie.Need-number-at-requires-2
 number-at-requires-2 c κs = search needs
 
--- src/lib.rt:127:20
 number-at-requires-3 : tie.Need-number-at-requires-3
 number-at-requires-3 c κs = search needs
 
--- src/lib.rt:128:18
 number-at-requires-4 : tie.Need-number-at-requires-4
 number-at-requires-4 c κs = search needs
 
--- src/lib.rt:119:1
 returns : tie.Need-returns
 returns c = let f : SFits w64 (c .before .before .before .signed .result) = search needs in rw (toZ-ofZ f, c .before .before .before .before .before .u8-at .ensures, c .before .before .before .signed .ensures, c .before .before .before .before .number-at .ensures .0, c .before .before .number-at2 .ensures .0, c .before .number-at3 .ensures .0, c .number-at4 .ensures .0, signed-8) (flows-is _)
 

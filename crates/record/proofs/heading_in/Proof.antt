@@ -1,37 +1,27 @@
+-- `record::heading_in` meets its contract: each field is read at its place. Assumes nothing.
 use Rattle.record.proofs.Decoding.{heading-is}
 use borrow.Author.Needs.{needs}
 use Rattle.record.proofs.heading_in.Statement.{statement}
 use Rattle.record.proofs.heading_in.Tie as tie
-use Rattle.record.proofs.heading_in.Reads as reads
-use Rattle.record.proofs.heading_in.Lts as lts
-use Rattle.record.proofs.fields.u16_at.Reads as u16-at-reads
-use Rattle.record.proofs.fields.u8_at.Reads as u8-at-reads
 
--- src/lib.rt:110:15
 u16-at-requires : tie.Need-u16-at-requires
 u16-at-requires c κs = search needs
 
--- src/lib.rt:111:15
 u16-at-requires-2 : tie.Need-u16-at-requires-2
 u16-at-requires-2 c κs = search needs
 
--- src/lib.rt:112:16
 u8-at-requires : tie.Need-u8-at-requires
 u8-at-requires c κs = search needs
 
--- src/lib.rt:113:16
 u16-at-requires-3 : tie.Need-u16-at-requires-3
 u16-at-requires-3 c κs = search needs
 
--- src/lib.rt:114:18
 u8-at-requires-2 : tie.Need-u8-at-requires-2
 u8-at-requires-2 c κs = search needs
 
--- src/lib.rt:115:18
 u8-at-requires-3 : tie.Need-u8-at-requires-3
 u8-at-requires-3 c κs = search needs
 
--- src/lib.rt:105:1
 returns : tie.Need-returns
 returns c = rw (c .before .before .before .before .before .u16-at .ensures, c .before .before .before .before .u16-at2 .ensures, c .before .before .before .u8-at .ensures, c .before .before .u16-at3 .ensures, c .before .u8-at2 .ensures, c .u8-at3 .ensures) (heading-is _)
 

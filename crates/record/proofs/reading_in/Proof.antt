@@ -1,30 +1,21 @@
+-- `record::reading_in` meets its contract: each field is read at its place. Assumes nothing.
 use Rattle.record.proofs.Decoding.{reading-is}
 use borrow.Author.Needs.{needs}
 use Rattle.record.proofs.reading_in.Statement.{statement}
 use Rattle.record.proofs.reading_in.Tie as tie
-use Rattle.record.proofs.reading_in.Reads as reads
-use Rattle.record.proofs.reading_in.Lts as lts
-use Rattle.record.proofs.fields.u16_at.Reads as u16-at-reads
-use Rattle.record.proofs.fields.u32_at.Reads as u32-at-reads
-use Rattle.record.proofs.fields.u8_at.Reads as u8-at-reads
 
--- src/lib.rt:137:16
 u8-at-requires : tie.Need-u8-at-requires
 u8-at-requires c κs = search needs
 
--- src/lib.rt:138:12
 u16-at-requires : tie.Need-u16-at-requires
 u16-at-requires c κs = search needs
 
--- src/lib.rt:139:12
 u16-at-requires-2 : tie.Need-u16-at-requires-2
 u16-at-requires-2 c κs = search needs
 
--- src/lib.rt:140:15
 u32-at-requires : tie.Need-u32-at-requires
 u32-at-requires c κs = search needs
 
--- src/lib.rt:132:1
 returns : tie.Need-returns
 returns c = rw (c .before .before .before .u8-at .ensures, c .before .before .u16-at .ensures, c .before .u16-at2 .ensures, c .u32-at .ensures) (reading-is _)
 

@@ -1,3 +1,4 @@
+-- `record::fields::put_bytes` meets its contract: the bytes left, on what is copied, give the whole. Assumes nothing.
 use borrow.Author.Needs.{needs}
 use native.Mathlib.Omega.{arith}
 use lib.ListN.{length}
@@ -5,8 +6,6 @@ use Prim.Native.Nat.{_-_}
 use Rattle.record.proofs.Bytes.{Copying, copy-start, copy-next, copy-end}
 use Rattle.record.proofs.fields.put_bytes.Statement.{statement}
 use Rattle.record.proofs.fields.put_bytes.Tie as tie
-use Rattle.record.proofs.fields.put_bytes.Reads as reads
-use Rattle.record.proofs.fields.put_bytes.Lts as lts
 
 abbrev Inv-loop : tie.InvT-loop
 Inv-loop d₀ at bytes i₀ d i = Copying d₀ at bytes d i
@@ -14,39 +13,30 @@ Inv-loop d₀ at bytes i₀ d i = Copying d₀ at bytes d i
 abbrev μ-loop : tie.MeasureT-loop
 μ-loop d₀ at bytes i₀ d i = length bytes - i
 
--- src/fields.rt:109:5
 loop-holds : tie.Need-loop-holds Inv-loop μ-loop
 loop-holds c = copy-start (c .pre)
 
--- src/fields.rt:110:21
 shared-slice-read-d : tie.Need-shared-slice-read-d Inv-loop μ-loop
 shared-slice-read-d c = search needs
 
--- src/fields.rt:110:11
 add-d : tie.Need-add-d Inv-loop μ-loop
 add-d c = search needs
 
--- src/fields.rt:110:9
 slice-write-d : tie.Need-slice-write-d Inv-loop μ-loop
 slice-write-d c = search needs
 
--- src/fields.rt:111:9
 add-i : tie.Need-add-i Inv-loop μ-loop
 add-i c = search needs
 
--- src/fields.rt:109:5
 loop-less : tie.Need-loop-less Inv-loop μ-loop
 loop-less c = search needs
 
--- src/fields.rt:109:5
 loop-again : tie.Need-loop-again Inv-loop μ-loop
 loop-again c = copy-next (c .before .before .loop .inv) (omega arith)
 
--- src/fields.rt:104:1
 same-length : tie.Need-same-length Inv-loop μ-loop
 same-length c = c .before .loop .inv .same
 
--- src/fields.rt:104:1
 returns : tie.Need-returns Inv-loop μ-loop
 returns c = copy-end (c .before .loop .inv) (omega arith)
 

@@ -1,30 +1,23 @@
+-- `record::fields::unsigned` meets its contract: -1 - z is how far below the largest number a negative z stands. Assumes nothing.
 use Rattle.record.proofs.Complement.{plain-fits, plain-is, distance-fits, distance-cast, distance-room, complement-is}
 use Rattle.record.proofs.fields.unsigned.Statement.{statement}
 use Rattle.record.proofs.fields.unsigned.Tie as tie
-use Rattle.record.proofs.fields.unsigned.Reads as reads
-use Rattle.record.proofs.fields.unsigned.Lts as lts
 
--- src/fields.rt:69:16
 cast-result : tie.Need-cast-result
 cast-result c = plain-fits (c .before .fits .z) 0 (c .if1 .taken)
 
--- src/fields.rt:69:9
 returns : tie.Need-returns
 returns c = plain-is (c .before .fits .z) _ (c .if1 .taken)
 
--- src/fields.rt:71:13
 sub-result : tie.Need-sub-result
 sub-result c = distance-fits (c .before .fits .z) 0 (c .if1 .left)
 
--- src/fields.rt:71:12
 cast-result-2 : tie.Need-cast-result-2
 cast-result-2 c = distance-cast (c .before .fits .z) 0 (c .if1 .left)
 
--- src/fields.rt:71:5
 sub-result-2 : tie.Need-sub-result-2
 sub-result-2 c = distance-room (c .before .fits .z) _ (c .if1 .left) (c .before .pre)
 
--- src/fields.rt:64:1
 returns-2 : tie.Need-returns-2
 returns-2 c = complement-is (c .before .fits .z) _ (c .if1 .left)
 

@@ -1,3 +1,4 @@
+-- `record::rule::flows_in_range` meets its contract: the code tests what the rule tests, flow by flow. Assumes nothing.
 use mir.Facts.{toZ-ofZ}
 use mir.Syntax.{w64}
 use mir.Val.{SFits}
@@ -5,20 +6,13 @@ use Rattle.rules.specs.Flows.{flowsInRange, silentIsZero}
 use borrow.Author.Needs.{needs}
 use Rattle.record.proofs.rule.flows_in_range.Statement.{statement}
 use Rattle.record.proofs.rule.flows_in_range.Tie as tie
-use Rattle.record.proofs.rule.flows_in_range.Reads as reads
-use Rattle.record.proofs.rule.flows_in_range.Lts as lts
-use Rattle.record.proofs.rule.is_zero.Reads as is-zero-reads
-use Rattle.record.proofs.rule.net_in_range.Reads as net-in-range-reads
 
--- src/rule.rt:61:11
 net-in-range-requires : tie.Need-net-in-range-requires
 net-in-range-requires c κs = search needs
 
--- src/rule.rt:65:18
 is-zero-requires : tie.Need-is-zero-requires
 is-zero-requires c κs = search needs
 
--- src/rule.rt:57:1
 returns : tie.Need-returns
 unfolding flowsInRange silentIsZero
 returns c = let f : SFits w64 (c .before .before .before .before .before .before .before .before .before .before .before .before .args .f .«net_wh») = search needs in rw (c .before .before .before .before .before .before .before .before .before .net-in-range .ensures, c .before .before .before .before .is-zero .ensures, toZ-ofZ f)

@@ -1,24 +1,19 @@
+-- `record::rule::gln_fault` meets its contract: a GLN that was tested as none is 5. Assumes nothing.
 use Rattle.rules.specs.Refusals.{unless}
 use borrow.Author.Needs.{needs}
 use Rattle.record.proofs.rule.gln_fault.Statement.{statement}
 use Rattle.record.proofs.rule.gln_fault.Tie as tie
-use Rattle.record.proofs.rule.gln_fault.Reads as reads
-use Rattle.record.proofs.rule.gln_fault.Lts as lts
 
--- src/rule.rt:89:26
 enum-told : tie.Need-enum-told
 enum-told c = search needs
 
--- src/rule.rt:90:41
 enum-told-2 : tie.Need-enum-told-2
 enum-told-2 c = search needs
 
--- src/rule.rt:85:1
 returns : tie.Need-returns
 unfolding unless
 returns c = rw (c .enum-told .given .1)
 
--- src/rule.rt:85:1
 returns-2 : tie.Need-returns-2
 unfolding unless
 returns-2 c = rw (c .enum-told2 .given .1)

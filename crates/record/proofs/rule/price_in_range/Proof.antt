@@ -1,10 +1,8 @@
+-- `record::rule::price_in_range` meets its contract: the bits of a signed number say the number. Assumes nothing.
 use Rattle.record.proofs.Judging.{within-bits}
 use Rattle.record.proofs.rule.price_in_range.Statement.{statement}
 use Rattle.record.proofs.rule.price_in_range.Tie as tie
-use Rattle.record.proofs.rule.price_in_range.Reads as reads
-use Rattle.record.proofs.rule.price_in_range.Lts as lts
 
--- src/rule.rt:43:1
 returns : tie.Need-returns
 returns c = within-bits _ _ (c .fits .z)
 

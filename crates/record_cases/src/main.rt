@@ -1,0 +1,214 @@
+// Cases of one record, run by the gate (01 "The month file"): GS1's example and two GLNs of the paper, each refusal of the reader alone and of the writer,
+// and a net supply of -8,000,000,000 Wh there and back. One line for each.
+use answer::Refusal;
+use gln::Gln;
+use record::Flows;
+use record::Heading;
+use record::Read;
+use record::Reading;
+use record::Record;
+use record::Written;
+
+const OUT: i32 = 1;
+
+fn refused(x: Refusal, place: usize) {
+    io::print_decimal(OUT, answer::number(x) as u64);
+    io::write_all(OUT, b" at ");
+    io::print_decimal(OUT, place as u64);
+    io::write_all(OUT, b"\n");
+}
+
+fn signed(z: i64) {
+    if 0 <= z {
+        io::print_decimal(OUT, z as u64);
+    } else {
+        io::write_all(OUT, b"-");
+        io::print_decimal(OUT, ((-1 - z) as u64) + 1);
+    }
+}
+
+// What a record is, by its kind and one of its fields.
+fn kind(r: Record) {
+    match r {
+        Record::Heading(h) => {
+            io::write_all(OUT, b"heading ");
+            io::print_decimal(OUT, h.year as u64);
+        }
+        Record::Party(share) => {
+            io::write_all(OUT, b"party ");
+            io::print_decimal(OUT, share);
+        }
+        Record::FixedHour(_, f) => {
+            io::write_all(OUT, b"fixed ");
+            signed(f.net_wh);
+        }
+        Record::Reading(x) => {
+            io::write_all(OUT, b"reading ");
+            io::print_decimal(OUT, x.e_wh as u64);
+        }
+        Record::Price(_, price_ore) => {
+            io::write_all(OUT, b"price ");
+            signed(price_ore);
+        }
+        Record::RefixedHour(_, f) => {
+            io::write_all(OUT, b"refixed ");
+            signed(f.net_wh);
+        }
+        Record::End(count) => {
+            io::write_all(OUT, b"end ");
+            io::print_decimal(OUT, count as u64);
+        }
+    }
+    io::write_all(OUT, b"\n");
+}
+
+fn gln_case(part: &[u8]) {
+    io::write_all(OUT, b"gln ");
+    let g = gln::check(part);
+    match g {
+        Gln::Valid(n) => {
+            io::print_decimal(OUT, n);
+        }
+        Gln::Invalid => {
+            io::write_all(OUT, b"none");
+        }
+    }
+    io::write_all(OUT, b"\n");
+}
+
+fn read_case(part: &[u8]) {
+    io::write_all(OUT, b"read ");
+    let r = record::read_alone(part);
+    match r {
+        Read::Given(x) => kind(x),
+        Read::Refused(x, place) => refused(x, place),
+    }
+}
+
+// Written into a part of 22 bytes: room for all but an hour.
+fn write_case(r: Record, gln: &[u8]) {
+    io::write_all(OUT, b"write ");
+    let mut part = [0u8; 22];
+    let w = record::write(r, gln, &mut part);
+    match w {
+        Written::Bytes(n) => {
+            io::print_decimal(OUT, n as u64);
+            io::write_all(OUT, b" bytes, ");
+            read_case(&part);
+        }
+        Written::Refused(x, place) => refused(x, place),
+    }
+}
+
+// An hour written and read back.
+fn hour_case(r: Record) {
+    io::write_all(OUT, b"write ");
+    let mut part = [0u8; 36];
+    let w = record::write(r, b"", &mut part);
+    match w {
+        Written::Bytes(n) => {
+            io::print_decimal(OUT, n as u64);
+            io::write_all(OUT, b" bytes, ");
+            read_case(&part);
+        }
+        Written::Refused(x, place) => refused(x, place),
+    }
+}
+
+fn glns() {
+    gln_case(b"6291041500213");
+    gln_case(b"5790001330552");
+    gln_case(b"5790000432752");
+    gln_case(b"5790001330553");
+    gln_case(b"579000133055");
+    gln_case(b"57900013305a2");
+}
+
+fn reads() {
+    read_case(b"");
+    read_case(b"\x00");
+    read_case(b"\x08");
+    read_case(b"\x01\x00\x01\x07\xe9\x0b\x02\xd0\x02");
+    read_case(b"\x01\x00\x01\x07\xe9\x0b\x02\xd0\x02\x01");
+    read_case(b"\x01\x00\x01\x07\xe9\x0d\x02\xd0\x02\x01");
+    read_case(b"\x01\x00\x01\x07\xe9\x0b\x02\xd0\x02\x02");
+    read_case(b"\x025790001330552\x00\x00\x00\x00\x00\x00\x03\xe8");
+    read_case(b"\x025790001330553\x00\x00\x00\x00\x00\x00\x03\xe8");
+    read_case(b"\x025790001330553\x00\x00\x00\x01\x00\x00\x00\x00");
+}
+
+fn more_reads() {
+    read_case(b"\x04\x3f\x00\x00\x02\xe9\x3b\x9a\xca\x00");
+    read_case(b"\x04\x40\x00\x00\x02\xe9\x3b\x9a\xca\x00");
+    read_case(b"\x04\x3f\x00\x00\x02\xea\x3b\x9a\xca\x01");
+    read_case(b"\x04\x3f\x00\x01\x00\x01\x00\x00\x00\x00");
+    read_case(b"\x04\x3f\x00\x00\x02\xe9\x3b\x9a\xca\x01");
+    read_case(b"\x05\x02\xe8\xff\xb3\xb4\xc0");
+    read_case(b"\x05\x02\xe9\xff\xb3\xb4\xc0");
+    read_case(b"\x05\x02\xe8\xff\xb3\xb4\xbf");
+    read_case(b"\x07\xff\xff\xff\xff and what follows");
+}
+
+fn flows(status: u8, net_wh: i64) -> Flows {
+    Flows {
+        status,
+        net_wh,
+        production_wh: 0,
+        hourly_wh: 0,
+        flex_wh: 0,
+    }
+}
+
+fn writes() {
+    write_case(Record::Party(4000000000), b"5790000432752");
+    write_case(Record::Party(4000000001), b"5790000432753");
+    write_case(Record::Party(0), b"5790000432753");
+    write_case(Record::Party(0), b"579000043275");
+    write_case(Record::End(4294967295), b"");
+    write_case(Record::FixedHour(0, flows(1, 0)), b"");
+    hour_case(Record::FixedHour(744, flows(1, -8000000000)));
+    hour_case(Record::RefixedHour(744, flows(2, -8000000001)));
+    hour_case(Record::FixedHour(744, flows(0, 1)));
+    hour_case(Record::FixedHour(745, flows(1, 0)));
+}
+
+fn more_writes() {
+    write_case(
+        Record::Heading(Heading {
+            area: 999,
+            year: 2099,
+            month: 12,
+            hours: 745,
+            parties: 64,
+            carrier: 63,
+        }),
+        b"",
+    );
+    write_case(
+        Record::Reading(Reading {
+            party: 63,
+            a: 5,
+            b: 5,
+            e_wh: 1000000001,
+        }),
+        b"",
+    );
+    write_case(
+        Record::Reading(Reading {
+            party: 63,
+            a: 4,
+            b: 5,
+            e_wh: 1000000001,
+        }),
+        b"",
+    );
+    write_case(Record::Price(0, 5000001), b"");
+}
+
+fn main() {
+    glns();
+    reads();
+    more_reads();
+    writes();
+    more_writes();
+}
