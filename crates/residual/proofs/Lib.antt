@@ -1,2 +1,3 @@
 pub mod OneHour
 pub mod Sizes
+pub mod Places

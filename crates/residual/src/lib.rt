@@ -13,7 +13,6 @@ ghost use Rattle.rules.specs.Words.{atMost, withinℤ};
 ghost use Rattle.residual.specs.Applied.{appliedOf};
 ghost use Rattle.residual.specs.Hour.{judgement, flowsHere, WithinLimits};
 ghost use Rattle.residual.specs.Passes.{residualShape, rangesOf, Ranged, Judged, curveShape, CurveReady};
-
 use answer::Answer;
 use answer::Refusal;
 
@@ -25,7 +24,9 @@ const ESTIMATED: u8 = 2;
 
 // "Net supply -8,000,000,000..8,000,000,000; other flows 0..8,000,000,000."
 const GREATEST_FLOW: u64 = 8_000_000_000;
+
 const GREATEST_NET: i64 = 8_000_000_000;
+
 const LEAST_NET: i64 = -8_000_000_000;
 
 // "Residual 0..2,000,000,000."
@@ -65,4 +66,58 @@ pub fn residual_of(net: i64, production: u64, hourly: u64, flex: u64) -> i64
     ensures { λ r. ⌜ r ≡ residual (flowsHere 0 net production hourly flex) ⌝ }
 {
     net + production as i64 - hourly as i64 - flex as i64
+}
+
+// A judgement as an answer at its hour: 7, 8, 9, or done.
+fn answer_of(hour: Hour, place: usize) -> Answer
+    ensures { λ r. ⌜ said r ≡ verdictOf (judgement hour) place ⌝ }
+{
+    match hour {
+        Hour::Figure(_) => Answer::Done,
+        Hour::Missing => Answer::Refused(Refusal::MissingHour, place),
+        Hour::Negative => Answer::Refused(Refusal::ResidualNegative, place),
+        Hour::TooLarge => Answer::Refused(Refusal::ResidualTooLarge, place),
+    }
+}
+
+// "Net supply -8,000,000,000..8,000,000,000"
+fn net_in_range(net: i64) -> bool
+    ensures { λ r. ⌜ r ≡ withinℤ greatestFlow net ⌝ }
+{
+    (LEAST_NET <= net) & (net <= GREATEST_NET)
+}
+
+// "With status 0 a figure other than 0 is refused with 4": a missing hour has no figure.
+fn silent_is_zero(status: u8, net: i64, production: u64, hourly: u64, flex: u64) -> bool
+    ensures { λ r. ⌜ r ≡ silentIsZero (flowsHere status net production hourly flex) ⌝ }
+{
+    (1 <= status) | ((net == 0) & (production == 0) & (hourly == 0) & (flex == 0))
+}
+
+// Every status is 0, 1 or 2.
+fn statuses_in_range(statuses: &[u8]) -> Answer
+    ensures { λ r. ⌜ said r ≡ eachAt (now (statuses .entry)) (atMost estimated) outOfRange ⌝ }
+{
+    let mut i = 0;
+    while i < statuses.len() {
+        if ESTIMATED < statuses[i] {
+            return Answer::Refused(Refusal::OutOfRange, i);
+        }
+        i += 1;
+    }
+    Answer::Done
+}
+
+// Every net supply is within its limits.
+fn nets_in_range(nets: &[i64]) -> Answer
+    ensures { λ r. ⌜ said r ≡ eachAtℤ (now (nets .entry)) (withinℤ greatestFlow) outOfRange ⌝ }
+{
+    let mut i = 0;
+    while i < nets.len() {
+        if !net_in_range(nets[i]) {
+            return Answer::Refused(Refusal::OutOfRange, i);
+        }
+        i += 1;
+    }
+    Answer::Done
 }
