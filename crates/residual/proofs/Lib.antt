@@ -1,3 +1,7 @@
 pub mod OneHour
 pub mod Sizes
 pub mod Places
+pub mod Checks
+pub mod Hours
+pub mod CurveNumbers
+pub mod Series

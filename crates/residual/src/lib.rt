@@ -7,12 +7,12 @@ ghost use lib.ListN.{length};
 ghost use Rattle.answer.specs.Said.{said};
 ghost use Rattle.rules.specs.Flows.{residual, silentIsZero, judgedBy, verdictOf, curveNumber};
 ghost use Rattle.rules.specs.Limits.{estimated, greatestFlow};
-ghost use Rattle.rules.specs.Refusals.{outOfRange, first, inTurn, afterwards};
-ghost use Rattle.rules.specs.Services.{eachAt, eachAtℤ, silentCheck, hourCheck, residualChecks, residualFigures, curveFits, curveChecks, curveFigures};
-ghost use Rattle.rules.specs.Words.{atMost, withinℤ};
+ghost use Rattle.rules.specs.Refusals.{outOfRange, curveTooLarge, first, inTurn, afterwards};
+ghost use Rattle.rules.specs.Services.{atℤ, eachAt, eachAtℤ, silentCheck, hourCheck, residualChecks, residualFigures, curveFits, curveChecks, curveFigures};
+ghost use Rattle.rules.specs.Words.{at, atMost, withinℤ};
 ghost use Rattle.residual.specs.Applied.{appliedOf};
-ghost use Rattle.residual.specs.Hour.{judgement, flowsHere, WithinLimits};
-ghost use Rattle.residual.specs.Passes.{residualShape, rangesOf, Ranged, Judged, curveShape, CurveReady};
+ghost use Rattle.residual.specs.Hour.{judgement, flowsHere, WithinLimits, WithinLimitsAt};
+ghost use Rattle.residual.specs.Passes.{residualShape, rangesOf, SameLengths, Ranged, Judged, curveShape, CurveReady};
 use answer::Answer;
 use answer::Refusal;
 
@@ -68,6 +68,14 @@ pub fn residual_of(net: i64, production: u64, hourly: u64, flex: u64) -> i64
     net + production as i64 - hourly as i64 - flex as i64
 }
 
+// The residual of one hour of the four series of flows.
+fn residual_at(nets: &[i64], productions: &[u64], hourlies: &[u64], flexes: &[u64], t: usize) -> i64
+    requires { ⌜ WithinLimitsAt (now nets) (now productions) (now hourlies) (now flexes) t ⌝ }
+    ensures { λ r. ⌜ r ≡ residual (flowsHere 0 (atℤ (now (nets .entry)) t) (at (now (productions .entry)) t) (at (now (hourlies .entry)) t) (at (now (flexes .entry)) t)) ⌝ }
+{
+    residual_of(nets[t], productions[t], hourlies[t], flexes[t])
+}
+
 // A judgement as an answer at its hour: 7, 8, 9, or done.
 fn answer_of(hour: Hour, place: usize) -> Answer
     ensures { λ r. ⌜ said r ≡ verdictOf (judgement hour) place ⌝ }
@@ -119,5 +127,249 @@ fn nets_in_range(nets: &[i64]) -> Answer
         }
         i += 1;
     }
+    Answer::Done
+}
+
+// 16; 4: lists of unequal length, H outside 1..745. Of lengths alone.
+fn residual_shape(
+    statuses: usize,
+    nets: usize,
+    productions: usize,
+    hourlies: usize,
+    flexes: usize,
+    lent: usize,
+) -> Answer
+    ensures { λ r. ⌜ said r ≡ residualShape statuses nets productions hourlies flexes lent ⌝ }
+{
+    if lent != statuses {
+        return Answer::Refused(Refusal::WrongLength, 0);
+    }
+    if !((nets == statuses)
+        & (productions == statuses)
+        & (hourlies == statuses)
+        & (flexes == statuses)) {
+        return Answer::Refused(Refusal::OutOfRange, 0);
+    }
+    if !((1 <= statuses) & (statuses <= MOST_HOURS)) {
+        return Answer::Refused(Refusal::OutOfRange, 0);
+    }
+    Answer::Done
+}
+
+// "the place of 4 is the first value outside in its list, lists in the order named"
+fn flows_in_range(
+    statuses: &[u8],
+    nets: &[i64],
+    productions: &[u64],
+    hourlies: &[u64],
+    flexes: &[u64],
+) -> Answer
+    ensures { λ r. ⌜ said r ≡ rangesOf (now (statuses .entry)) (now (nets .entry)) (now (productions .entry)) (now (hourlies .entry)) (now (flexes .entry)) ⌝ }
+{
+    let by_status = statuses_in_range(statuses);
+    let Answer::Done = by_status else {
+        return by_status;
+    };
+    let by_net = nets_in_range(nets);
+    let Answer::Done = by_net else {
+        return by_net;
+    };
+    let by_production = answer::each_at_most_u64(productions, GREATEST_FLOW, Refusal::OutOfRange);
+    let Answer::Done = by_production else {
+        return by_production;
+    };
+    let by_hourly = answer::each_at_most_u64(hourlies, GREATEST_FLOW, Refusal::OutOfRange);
+    let Answer::Done = by_hourly else {
+        return by_hourly;
+    };
+    answer::each_at_most_u64(flexes, GREATEST_FLOW, Refusal::OutOfRange)
+}
+
+// The first missing hour that has a figure: 4 at that hour.
+fn silent_hours(
+    statuses: &[u8],
+    nets: &[i64],
+    productions: &[u64],
+    hourlies: &[u64],
+    flexes: &[u64],
+) -> Answer
+    requires { ⌜ SameLengths (now statuses) (now nets) (now productions) (now hourlies) (now flexes) ⌝ }
+    ensures { λ r. ⌜ said r ≡ inTurn (length (now (statuses .entry))) (silentCheck (now (statuses .entry)) (now (nets .entry)) (now (productions .entry)) (now (hourlies .entry)) (now (flexes .entry))) ⌝ }
+{
+    let mut t = 0;
+    while t < statuses.len() {
+        if !silent_is_zero(statuses[t], nets[t], productions[t], hourlies[t], flexes[t]) {
+            return Answer::Refused(Refusal::OutOfRange, t);
+        }
+        t += 1;
+    }
+    Answer::Done
+}
+
+// "each 7, 8, 9": the first hour that has no figure.
+fn judge_hours(
+    statuses: &[u8],
+    nets: &[i64],
+    productions: &[u64],
+    hourlies: &[u64],
+    flexes: &[u64],
+) -> Answer
+    requires { ⌜ Ranged (now statuses) (now nets) (now productions) (now hourlies) (now flexes) ⌝ }
+    ensures { λ r. ⌜ said r ≡ inTurn (length (now (statuses .entry))) (hourCheck (now (statuses .entry)) (now (nets .entry)) (now (productions .entry)) (now (hourlies .entry)) (now (flexes .entry))) ⌝ }
+{
+    let mut t = 0;
+    while t < statuses.len() {
+        let wh = residual_at(nets, productions, hourlies, flexes, t);
+        let hour = judge(statuses[t], wh);
+        let here = answer_of(hour, t);
+        let Answer::Done = here else {
+            return here;
+        };
+        t += 1;
+    }
+    Answer::Done
+}
+
+// The residual of every hour, of hours that all have one.
+fn write_residuals(
+    statuses: &[u8],
+    nets: &[i64],
+    productions: &[u64],
+    hourlies: &[u64],
+    flexes: &[u64],
+    out: &mut [u32],
+)
+    requires { ⌜ Judged (now statuses) (now nets) (now productions) (now hourlies) (now flexes) ⌝ }
+    requires { ⌜ length (now out) ≡ length (now statuses) ⌝ }
+    ensures { λ _. ⌜ now (out .exit) ≡ residualFigures (now (statuses .entry)) (now (nets .entry)) (now (productions .entry)) (now (hourlies .entry)) (now (flexes .entry)) ⌝ }
+{
+    let mut t = 0;
+    while t < out.len() {
+        let wh = residual_at(nets, productions, hourlies, flexes, t);
+        out[t] = wh as u32;
+        t += 1;
+    }
+}
+
+// RESIDUAL: the residual of each hour into the lent series, or the first refusal and nothing written.
+pub fn residual(
+    statuses: &[u8],
+    nets: &[i64],
+    productions: &[u64],
+    hourlies: &[u64],
+    flexes: &[u64],
+    out: &mut [u32],
+) -> Answer
+    ensures answer { λ r. ⌜ said r ≡ first (residualChecks (now (statuses .entry)) (now (nets .entry)) (now (productions .entry)) (now (hourlies .entry)) (now (flexes .entry)) (length (now (out .entry)))) ⌝ }
+    ensures contents { λ r. ⌜ now (out .exit) ≡ afterwards (said r) (residualFigures (now (statuses .entry)) (now (nets .entry)) (now (productions .entry)) (now (hourlies .entry)) (now (flexes .entry))) (now (out .entry)) ⌝ }
+{
+    let shape = residual_shape(
+        statuses.len(),
+        nets.len(),
+        productions.len(),
+        hourlies.len(),
+        flexes.len(),
+        out.len(),
+    );
+    let Answer::Done = shape else {
+        return shape;
+    };
+    let ranges = flows_in_range(statuses, nets, productions, hourlies, flexes);
+    let Answer::Done = ranges else {
+        return ranges;
+    };
+    let silent = silent_hours(statuses, nets, productions, hourlies, flexes);
+    let Answer::Done = silent else {
+        return silent;
+    };
+    let hours = judge_hours(statuses, nets, productions, hourlies, flexes);
+    let Answer::Done = hours else {
+        return hours;
+    };
+    write_residuals(statuses, nets, productions, hourlies, flexes, out);
+    Answer::Done
+}
+
+// "The applied series is the refixed series if the file has one, otherwise the fixed series." A part of one of the two.
+pub fn applied<'a>(fixed: &'a [u32], refixed: &'a [u32], has_refixed: bool) -> &'a [u32]
+    ensures { λ r. ⌜ now r ≡ appliedOf (now (fixed .entry)) (now (refixed .entry)) «has_refixed» ⌝ }
+{
+    if has_refixed {
+        &refixed[0..refixed.len()]
+    } else {
+        &fixed[0..fixed.len()]
+    }
+}
+
+// "Curve number of an hour (H2 1.13) = fixed residual x 1,000,000 / W, rounded down."
+pub fn curve_number(wh: u32, w: u64) -> u64
+    requires { ⌜ 0 < w ⌝ }
+    ensures { λ r. ⌜ r ≡ curveNumber wh w ⌝ }
+{
+    wh as u64 * 1_000_000 / w
+}
+
+// 16; 4: H outside 1..745; 6: W outside 1..4,000,000,000.
+fn curve_shape(hours: usize, w: u64, lent: usize) -> Answer
+    ensures { λ r. ⌜ said r ≡ curveShape hours w lent ⌝ }
+{
+    if lent != hours {
+        return Answer::Refused(Refusal::WrongLength, 0);
+    }
+    if !((1 <= hours) & (hours <= MOST_HOURS)) {
+        return Answer::Refused(Refusal::OutOfRange, 0);
+    }
+    if !((1 <= w) & (w <= GREATEST_W)) {
+        return Answer::Refused(Refusal::WOutOfRange, 0);
+    }
+    Answer::Done
+}
+
+// "Curve number at most 1,000,000,000.": the first hour whose curve number is larger.
+fn curve_numbers_fit(residuals: &[u32], w: u64) -> Answer
+    requires { ⌜ 0 < w ⌝ }
+    ensures { λ r. ⌜ said r ≡ eachAt (now (residuals .entry)) (curveFits w) curveTooLarge ⌝ }
+{
+    let mut t = 0;
+    while t < residuals.len() {
+        if GREATEST_CURVE_NUMBER < curve_number(residuals[t], w) {
+            return Answer::Refused(Refusal::CurveTooLarge, t);
+        }
+        t += 1;
+    }
+    Answer::Done
+}
+
+// The curve number of every hour, of hours whose curve numbers all fit.
+fn write_curve(residuals: &[u32], w: u64, out: &mut [u32])
+    requires { ⌜ CurveReady (now residuals) w ⌝ }
+    requires { ⌜ length (now out) ≡ length (now residuals) ⌝ }
+    ensures { λ _. ⌜ now (out .exit) ≡ curveFigures (now (residuals .entry)) w ⌝ }
+{
+    let mut t = 0;
+    while t < out.len() {
+        out[t] = curve_number(residuals[t], w) as u32;
+        t += 1;
+    }
+}
+
+// CURVE: the curve number of each hour into the lent series, or the first refusal and nothing written.
+pub fn curve(residuals: &[u32], w: u64, out: &mut [u32]) -> Answer
+    ensures answer { λ r. ⌜ said r ≡ first (curveChecks (now (residuals .entry)) w (length (now (out .entry)))) ⌝ }
+    ensures contents { λ r. ⌜ now (out .exit) ≡ afterwards (said r) (curveFigures (now (residuals .entry)) w) (now (out .entry)) ⌝ }
+{
+    let shape = curve_shape(residuals.len(), w, out.len());
+    let Answer::Done = shape else {
+        return shape;
+    };
+    let large = answer::each_at_most_u32(residuals, GREATEST_RESIDUAL, Refusal::ResidualTooLarge);
+    let Answer::Done = large else {
+        return large;
+    };
+    let fit = curve_numbers_fit(residuals, w);
+    let Answer::Done = fit else {
+        return fit;
+    };
+    write_curve(residuals, w, out);
     Answer::Done
 }
