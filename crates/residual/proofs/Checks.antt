@@ -8,7 +8,7 @@ use Rattle.answer.specs.Said.{named, said}
 use Rattle.answer.specs.declared.Answer.{Answer}
 use Rattle.answer.specs.declared.Answer.the-variants.{Done, Refused}
 use Rattle.answer.specs.declared.Refusal as D
-use Rattle.rules.specs.Refusals.{Refusal, Verdict, accepted, refused, unless, andThen, first}
+use Rattle.rules.specs.Refusals.{Refusal, Verdict, accepted, refused, unless, andThen, first, afterwards}
 use Rattle.rules.proofs.Refusals.{first-append}
 
 -- a flag that the code turns round before it tests it
@@ -61,3 +61,8 @@ grouped checks later = sym (first-append checks later)
 pub past : (check : Verdict) (l m : List Verdict) → first l ≡ first m → first (check ∷ l) ≡ first (check ∷ m)
 unfolding first
 past check l m e = ap (andThen check) e
+
+-- a refused call has written nothing
+pub unwritten : {A : Type 0} {x : Answer} {r : D.Refusal} {place : ℕ} (new old : List A) → x ≡ Refused r place → old ≡ afterwards (said x) new old
+unfolding afterwards
+unwritten new old told = rw told

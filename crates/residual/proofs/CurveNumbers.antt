@@ -3,19 +3,30 @@ use mathlib.Core.List.{List, [], _∷_}
 use mathlib.Core.Path.{_≡_, refl, sym, _∙_, ap}
 use Prim.Native.Nat.{ℕ, _≤_, _<_}
 use native.Mathlib.Omega.{arith}
-use borrow.Author.Tests.{leb-true, le-leb, lt-leb}
-use lib.Dec.{leb}
+use borrow.Author.Tests.{eqb-true, leb-true, le-leb, lt-leb}
+use lib.Dec.{eqb, leb}
 use lib.ListN.{length}
 use mir.Syntax.{w32}
 use mir.Val.{Fits}
 use Rattle.rules.specs.Flows.{curveNumber}
-use Rattle.rules.specs.Limits.{greatestResidual, greatestCurveNumber}
+use Rattle.rules.specs.Limits.{greatestW, greatestResidual, greatestCurveNumber}
 use Rattle.rules.specs.Refusals.{Refusal, curveTooLarge, residualTooLarge, accepted, refused, unless, first, andThen, inTurn}
 use Rattle.rules.specs.Services.{checkAt, eachAt, curveFits, curveChecks, curveAt}
-use Rattle.rules.specs.Words.{at, atMost}
-use Rattle.rules.proofs.Refusals.{in-turn-exactly, unless-exactly, first-append}
+use Rattle.rules.specs.Words.{at, atMost, within}
+use Rattle.rules.proofs.Refusals.{accepted-exactly, in-turn-exactly, unless-exactly, first-append}
+use Rattle.rules.proofs.Whole.{within-is}
 use Rattle.residual.proofs.Checks.{grouped}
 use Rattle.residual.specs.Passes.{curveShape, CurveReady}
+
+-- what an accepted shape says
+module _ (hours w lent : ℕ) (e : curveShape hours w lent ≡ accepted) where
+  pub shape-lent : lent ≡ hours
+  unfolding curveShape
+  shape-lent = eqb-true lent hours (unless-exactly (eqb lent hours) _ _ .0 (accepted-exactly _ .0 e .0))
+
+  pub shape-w : 0 < w
+  unfolding curveShape
+  shape-w = omega (arith, within-is 1 greatestW w (unless-exactly (within 1 greatestW w) _ _ .0 (accepted-exactly _ .0 e .1 .1 .0)) .0)
 
 module _ (residuals : List ℕ) (w : ℕ) where
   pub in-parts :

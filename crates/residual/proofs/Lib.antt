@@ -5,3 +5,4 @@ pub mod Checks
 pub mod Hours
 pub mod CurveNumbers
 pub mod Series
+pub mod Unique

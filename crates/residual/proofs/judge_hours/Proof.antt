@@ -44,7 +44,7 @@ enum-told-2 c = search needs
 said-here : (c : tie.After-answer-of Inv-loop μ-loop) → said (c .answer-of .result) ≡ hourCheck (c .before .before .before .before .before .before .before .before .before .before .args .statuses .now) (c .before .before .before .before .before .before .before .before .before .before .args .nets .now) (c .before .before .before .before .before .before .before .before .before .before .args .productions .now) (c .before .before .before .before .before .before .before .before .before .before .args .hourlies .now) (c .before .before .before .before .before .before .before .before .before .before .args .flexes .now) (c .before .before .before .before .before .loop .t)
 unfolding at
 said-here c =
-    hour-said _ _ _ _ _ _ (c .before .judge .result) _ (c .before .before .before .residual-at .ensures)
+    hour-said _ _ _ _ _ _ (c .before .judge .result) (c .answer-of .result) (c .before .before .before .residual-at .ensures)
     (toZ-ofZ (record { sfits = c .before .before .before .residual-at .ok }))
     (c .before .judge .ensures)
     (c .answer-of .ensures)
