@@ -1,8 +1,7 @@
 // From flows to the curve (01 "From flows to the curve"): the residual of an hour and of a series, the applied series, the curve. Each service takes any
 // input; what it refuses, in which order and at which place stands in `residualChecks` and `curveChecks` of the rules.
 ghost use mathlib.Core.Path.{_≡_};
-ghost use Prim.Native.Nat.{_<_, _≤_};
-ghost use lib.IntN.{natAbs};
+ghost use Prim.Native.Nat.{_<_, _/_};
 ghost use lib.ListN.{length};
 ghost use Rattle.answer.specs.Said.{said};
 ghost use Rattle.rules.specs.Flows.{residual, silentIsZero, judgedBy, verdictOf, curveNumber};
@@ -53,7 +52,10 @@ pub fn judge(status: u8, residual_wh: i64) -> Hour
     match status {
         0 => Hour::Missing,
         _ => match residual_wh {
-            0..=2_000_000_000 => Hour::Figure(residual_wh as u32),
+            0..=2_000_000_000 => {
+                let wh = residual_wh as u32;
+                Hour::Figure(wh)
+            }
             2_000_000_001..=9_223_372_036_854_775_807 => Hour::TooLarge,
             _ => Hour::Negative,
         },
@@ -301,12 +303,20 @@ pub fn applied<'a>(fixed: &'a [u32], refixed: &'a [u32], has_refixed: bool) -> &
     }
 }
 
+// "rounded down"
+fn rounded_down(n: u64, w: u64) -> u64
+    requires { ⌜ 0 < w ⌝ }
+    ensures { λ r. ⌜ r ≡ n / w ⌝ }
+{
+    n / w
+}
+
 // "Curve number of an hour (H2 1.13) = fixed residual x 1,000,000 / W, rounded down."
 pub fn curve_number(wh: u32, w: u64) -> u64
     requires { ⌜ 0 < w ⌝ }
     ensures { λ r. ⌜ r ≡ curveNumber wh w ⌝ }
 {
-    wh as u64 * 1_000_000 / w
+    rounded_down(wh as u64 * 1_000_000, w)
 }
 
 // 16; 4: H outside 1..745; 6: W outside 1..4,000,000,000.

@@ -11,8 +11,8 @@ use Rattle.residual.proofs.judge.Tie as tie
 same : (c : tie.Start) → toZ w64 (ofZ w64 (c .args .residual-wh)) ≡ c .args .residual-wh
 same c = toZ-ofZ (c .fits .residual-wh)
 
-cast-t6 : tie.Need-cast-t6
-cast-t6 c =
+cast-wh : tie.Need-cast-wh
+cast-wh c =
     let e = same (c .before .before .before) in
     rw e (figure-fits (c .before .before .before .args .residual-wh) (rw e at (c .before .if1 .left)) (rw e at (c .if2 .taken)))
 
@@ -33,4 +33,4 @@ returns-4 c =
     is-too-large _ _ (c .before .before .match .rest .1) (rw e at (c .before .if1 .left)) (rw e at (c .if2 .left))
 
 pub judge-spec : {M : Type 1} → statement M
-judge-spec = tie.close (tie.spec cast-t6 returns returns-2 returns-3 returns-4)
+judge-spec = tie.close (tie.spec cast-wh returns returns-2 returns-3 returns-4)
