@@ -1,6 +1,6 @@
 -- The curve's checks in the parts that the code goes through, and the bound of a curve number that was accepted. Nothing here looks into the curve number.
 use mathlib.Core.List.{List, [], _∷_}
-use mathlib.Core.Path.{_≡_, refl, sym, _∙_, ap}
+use mathlib.Core.Path.{_≡_, sym}
 use Prim.Native.Nat.{ℕ, _≤_, _<_}
 use native.Mathlib.Omega.{arith}
 use borrow.Author.Tests.{eqb-true, leb-true, le-leb, lt-leb}
@@ -10,10 +10,10 @@ use mir.Syntax.{w32}
 use mir.Val.{Fits}
 use Rattle.rules.specs.Flows.{curveNumber}
 use Rattle.rules.specs.Limits.{greatestW, greatestResidual, greatestCurveNumber}
-use Rattle.rules.specs.Refusals.{Refusal, curveTooLarge, residualTooLarge, accepted, refused, unless, first, andThen, inTurn}
-use Rattle.rules.specs.Services.{checkAt, eachAt, curveFits, curveChecks, curveAt}
+use Rattle.rules.specs.Refusals.{curveTooLarge, residualTooLarge, accepted, refused, unless, first}
+use Rattle.rules.specs.Services.{checkAt, eachAt, curveFits, curveChecks}
 use Rattle.rules.specs.Words.{at, atMost, within}
-use Rattle.rules.proofs.Refusals.{accepted-exactly, in-turn-exactly, unless-exactly, first-append}
+use Rattle.rules.proofs.Refusals.{accepted-exactly, in-turn-exactly, unless-exactly}
 use Rattle.rules.proofs.Whole.{within-is}
 use Rattle.residual.proofs.Checks.{grouped}
 use Rattle.residual.specs.Passes.{curveShape, CurveReady}

@@ -1,7 +1,7 @@
 -- The hours of five lists: what the ranges say of one hour, what its judgement says as a check, and that an hour that was judged has a figure of 32 bits.
 use mathlib.Core.Bool.{Bool, true, false, _&&_}
 use mathlib.Core.List.{List, [], _∷_}
-use mathlib.Core.Path.{_≡_, refl, sym, _∙_, ap}
+use mathlib.Core.Path.{_≡_, refl, _∙_, ap}
 use Prim.Native.Nat.{ℕ, zero, suc, _≤_, _<_}
 use native.Mathlib.Omega.{arith}
 use borrow.Author.Tests.{leb-true, eqb-true}
@@ -14,11 +14,11 @@ use mir.Val.{Fits}
 use Rattle.answer.specs.Said.{said}
 use Rattle.answer.specs.declared.Answer.{Answer}
 use Rattle.rules.specs.Flows.{residual, silentIsZero, judged, judgedBy, verdictOf, residualWh}
-use Rattle.rules.specs.Limits.{missing, estimated, greatestFlow, greatestResidual}
-use Rattle.rules.specs.Refusals.{Refusal, outOfRange, accepted, refused, unless, first, andThen, inTurn}
+use Rattle.rules.specs.Limits.{missing, greatestFlow, greatestResidual}
+use Rattle.rules.specs.Refusals.{Refusal, outOfRange, accepted, first, inTurn}
 use Rattle.rules.specs.Services.{atℤ, checkAt, eachAt, checkAtℤ, eachAtℤ, flowsOf, silentCheck, hourCheck, residualAt, residualChecks}
 use Rattle.rules.specs.Words.{at, atMost, withinℤ}
-use Rattle.rules.proofs.Refusals.{refused-not-accepted, accepted-exactly, in-turn-exactly, unless-exactly, first-append}
+use Rattle.rules.proofs.Refusals.{refused-not-accepted, accepted-exactly, in-turn-exactly, unless-exactly}
 use Rattle.rules.proofs.Whole.{within-size, both-pass}
 use Rattle.residual.specs.declared.Hour.{Hour}
 use Rattle.residual.specs.Hour.{judgement, flowsHere, WithinLimitsAt}

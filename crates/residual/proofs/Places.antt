@@ -1,8 +1,7 @@
 -- One place of the lists: what a test that held or failed there says of its check.
 use mathlib.Core.Bool.{Bool, true, false, not, _&&_, _||_}
-use mathlib.Core.List.{List}
-use mathlib.Core.Path.{_≡_, refl, sym, _∙_, ap}
-use Prim.Native.Nat.{ℕ, zero, suc, _-_, _<_, _^_}
+use mathlib.Core.Path.{_≡_, refl, sym, _∙_}
+use Prim.Native.Nat.{ℕ, suc, _-_, _^_}
 use native.Mathlib.Omega.{arith}
 use borrow.Author.Tests.{ne-eqb}
 use lib.Dec.{eqb, leb}
@@ -11,17 +10,16 @@ use mir.Syntax.{w64}
 use mir.Val.{SFits, ofZ}
 use Rattle.rules.specs.Flows.{silentIsZero}
 use Rattle.rules.specs.Refusals.{Refusal, accepted, refused, unless}
+use Rattle.residual.proofs.Checks.{flag-off, flag-on}
 use Rattle.residual.specs.Hour.{flowsHere}
 
 pub passes : {test b : Bool} (r : Refusal) (i : ℕ) → b ≡ test → not b ≡ false → unless test r i ≡ accepted
 unfolding unless
-passes {b = true} r i e h = rw (sym e)
-passes {b = false} r i e h = absurd (let z : _≡_ {A = ℕ} 0 1 = cc in omega arith)
+passes {b = b} r i e h = rw (sym e ∙ flag-on b h)
 
 pub stops : {test b : Bool} (r : Refusal) (i : ℕ) → b ≡ test → not b ≡ true → unless test r i ≡ refused r i
 unfolding unless
-stops {b = false} r i e h = rw (sym e)
-stops {b = true} r i e h = absurd (let z : _≡_ {A = ℕ} 0 1 = cc in omega arith)
+stops {b = b} r i e h = rw (sym e ∙ flag-off b h)
 
 -- the bits of a signed number are 0 only of 0
 zero-bits : (z : ℤ) → SFits w64 z → eqb (ofZ w64 z) 0 ≡ eqb (natAbs z) 0

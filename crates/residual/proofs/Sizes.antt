@@ -1,7 +1,7 @@
 -- Flows within their limits: no sum on the way to a residual leaves 64 bits, so that the machine's number is the residual itself. Each step's number is
 -- read back from its bits (`kept`), and the next step goes on from there.
 use mathlib.Core.Path.{_≡_, refl}
-use Prim.Native.Nat.{ℕ, suc, _+_, _≤_}
+use Prim.Native.Nat.{ℕ, _+_, _≤_}
 use native.Mathlib.Omega.{arith}
 use lib.IntN.{ℤ, pos, negsuc, natAbs, negℤ, _+ℤ_, _-ℤ_}
 use lib.Signed.{mag}

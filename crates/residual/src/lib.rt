@@ -312,7 +312,7 @@ fn rounded_down(n: u64, w: u64) -> u64
 }
 
 // "Curve number of an hour (H2 1.13) = fixed residual x 1,000,000 / W, rounded down."
-pub fn curve_number(wh: u32, w: u64) -> u64
+fn curve_number(wh: u32, w: u64) -> u64
     requires { ⌜ 0 < w ⌝ }
     ensures { λ r. ⌜ r ≡ curveNumber wh w ⌝ }
 {

@@ -3,7 +3,6 @@ use borrow.Author.Tests.{eq-eqb, ne-eqb}
 use Rattle.rules.specs.Words.{within}
 use Rattle.residual.proofs.Checks.{flag-off, flag-on, test-refuses, test-passes, none-left}
 use Rattle.residual.specs.Passes.{curveShape}
-use mathlib.Core.Path.{_∙_}
 use Rattle.residual.proofs.curve_shape.Statement.{statement}
 use Rattle.residual.proofs.curve_shape.Tie as tie
 

@@ -16,9 +16,6 @@ use Rattle.rules.proofs.Loops.{Looking, look-start, look-pass, look-stop, look-
 use Rattle.residual.proofs.Places.{passes, stops}
 use Rattle.residual.proofs.nets_in_range.Statement.{statement}
 use Rattle.residual.proofs.nets_in_range.Tie as tie
-use Rattle.residual.proofs.nets_in_range.Reads as reads
-use Rattle.residual.proofs.nets_in_range.Lts as lts
-use Rattle.residual.proofs.net_in_range.Reads as net-in-range-reads
 
 abbrev Inv-loop : tie.InvT-loop
 Inv-loop nets i₀ i = Looking (checkAtℤ nets (withinℤ greatestFlow) outOfRange) (length nets) i
@@ -26,19 +23,15 @@ Inv-loop nets i₀ i = Looking (checkAtℤ nets (withinℤ greatestFlow) outOfRa
 abbrev μ-loop : tie.MeasureT-loop
 μ-loop nets i₀ i = length nets - i
 
--- src/lib.rt:115:5
 loop-holds : tie.Need-loop-holds Inv-loop μ-loop
 loop-holds c = look-start _ _
 
--- src/lib.rt:116:26
 mul-net-in-range : tie.Need-mul-net-in-range Inv-loop μ-loop
 mul-net-in-range c = search needs
 
--- src/lib.rt:116:26
 shared-slice-copy-out-net-in-range : tie.Need-shared-slice-copy-out-net-in-range Inv-loop μ-loop
 shared-slice-copy-out-net-in-range c = search needs
 
--- src/lib.rt:116:13
 net-in-range-requires : tie.Need-net-in-range-requires Inv-loop μ-loop
 net-in-range-requires c κs = search needs
 

@@ -1,6 +1,6 @@
 -- `residual::residual_at` meets its contract: the four flows of the hour are read back as they stand. Assumes nothing.
-use mathlib.Core.Path.{_≡_, _∙_, ap}
-use lib.IntN.{ℤ, pos}
+use mathlib.Core.Path.{_≡_, _∙_}
+use lib.IntN.{pos}
 use lib.ListN.{getD}
 use mir.Facts.{toZ-ofZ}
 use mir.Syntax.{w64}

@@ -1,5 +1,5 @@
 -- `residual::silent_hours` meets its contract: what is left of the lists says what the whole says. Assumes nothing.
-use mathlib.Core.Path.{_≡_, sym, _∙_, ap}
+use mathlib.Core.Path.{_≡_, sym}
 use Prim.Native.Nat.{_-_}
 use lib.IntN.{pos}
 use lib.ListN.{length, getD}
