@@ -19,6 +19,8 @@ use answer::Refusal;
 const MOST_HOURS: usize = 745;
 
 // "Each hour has a status: 0 missing, 1 measured, 2 estimated."
+const MISSING: u8 = 0;
+
 const ESTIMATED: u8 = 2;
 
 // "Net supply -8,000,000,000..8,000,000,000; other flows 0..8,000,000,000."
@@ -31,8 +33,13 @@ const LEAST_NET: i64 = -8_000_000_000;
 // "Residual 0..2,000,000,000."
 const GREATEST_RESIDUAL: u32 = 2_000_000_000;
 
+const GREATEST_RESIDUAL_WH: i64 = 2_000_000_000;
+
 // "W 1..4,000,000,000."
 const GREATEST_W: u64 = 4_000_000_000;
+
+// "fixed residual x 1,000,000 / W"
+const CURVE_SCALE: u64 = 1_000_000;
 
 // "Curve number at most 1,000,000,000."
 const GREATEST_CURVE_NUMBER: u64 = 1_000_000_000;
@@ -50,14 +57,14 @@ pub fn judge(status: u8, residual_wh: i64) -> Hour
     ensures { λ r. ⌜ judgement r ≡ judgedBy status «residual_wh» ⌝ }
 {
     match status {
-        0 => Hour::Missing,
+        MISSING => Hour::Missing,
         _ => match residual_wh {
-            0..=2_000_000_000 => {
+            ..0 => Hour::Negative,
+            0..=GREATEST_RESIDUAL_WH => {
                 let wh = residual_wh as u32;
                 Hour::Figure(wh)
             }
-            2_000_000_001..=9_223_372_036_854_775_807 => Hour::TooLarge,
-            _ => Hour::Negative,
+            _ => Hour::TooLarge,
         },
     }
 }
@@ -316,7 +323,7 @@ fn curve_number(wh: u32, w: u64) -> u64
     requires { ⌜ 0 < w ⌝ }
     ensures { λ r. ⌜ r ≡ curveNumber wh w ⌝ }
 {
-    rounded_down(wh as u64 * 1_000_000, w)
+    rounded_down(wh as u64 * CURVE_SCALE, w)
 }
 
 // 16; 4: H outside 1..745; 6: W outside 1..4,000,000,000.
