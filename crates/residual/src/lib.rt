@@ -69,7 +69,7 @@ pub fn judge(status: u8, residual_wh: i64) -> Hour
     }
 }
 
-// "Residual of an hour (H2 ch. 4) = net supply + local production - hourly settled - flex settled."
+// "Residual of an hour (H2 ch. 4) = net supply + local production - hourly settled - flex settled." The status, 0 in the promise, has no part in it.
 pub fn residual_of(net: i64, production: u64, hourly: u64, flex: u64) -> i64
     requires { ⌜ WithinLimits net production hourly flex ⌝ }
     ensures { λ r. ⌜ r ≡ residual (flowsHere 0 net production hourly flex) ⌝ }
