@@ -48,24 +48,23 @@ sum-at-most l most r h = sum-bound (length l) (at l) most (λ i b. leb-true (at 
 module _ (e : ℕ) (weights : List ℕ) (lent : ℕ) where
   pub lent-wrong : (lent ≡ length weights → ⊥) → refused wrongLength 0 ≡ first (periodisationChecks e weights lent)
   unfolding periodisationChecks first andThen unless
-  lent-wrong h = simp (ne-eqb lent (length weights) h)
+  lent-wrong h = simp ne-eqb
 
   module _ (as-long : lent ≡ length weights) where
     pub no-hours : length weights < 1 → refused spanFault 0 ≡ first (periodisationChecks e weights lent)
     unfolding periodisationChecks first andThen unless within
-    no-hours h = simp (eq-eqb lent (length weights) as-long, lt-leb 1 (length weights) h)
+    no-hours h = simp (eq-eqb, lt-leb)
 
     module _ (some : 1 ≤ length weights) where
       pub too-many-hours : mostWeights < length weights → refused spanFault 0 ≡ first (periodisationChecks e weights lent)
       unfolding periodisationChecks first andThen unless within
-      too-many-hours h = simp (eq-eqb lent (length weights) as-long, le-leb 1 (length weights) some, lt-leb (length weights) mostWeights h)
+      too-many-hours h = simp (eq-eqb, le-leb, lt-leb)
 
       module _ (few : length weights ≤ mostWeights) where
         pub energy-wrong : greatestEnergy < e → refused energyTooLarge 0 ≡ first (periodisationChecks e weights lent)
         unfolding periodisationChecks first andThen unless within
         energy-wrong h =
-            simp
-            (eq-eqb lent (length weights) as-long, le-leb 1 (length weights) some, le-leb (length weights) mostWeights few, lt-leb e greatestEnergy h)
+            simp (eq-eqb, le-leb, lt-leb)
 
 -- E and the lengths are in order
 pub record Shaped (e : ℕ) (weights : List ℕ) (lent : ℕ) : Type 0 where

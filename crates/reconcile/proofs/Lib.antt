@@ -1,0 +1,5 @@
+pub mod Sizes
+pub mod Invoice
+pub mod Figures
+pub mod Settled
+pub mod Order
