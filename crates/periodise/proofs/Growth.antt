@@ -1,9 +1,9 @@
 -- The growth of E x (weights so far) / whole is the quotient of the kept remainder and the hour's own E x weight, so no hour looks back; with nothing before
 -- the part and the whole its own sum it is the rules' figure.
 use mathlib.Core.Logic.{⊎-elim}
-use mathlib.Core.Path.{_≡_, refl, sym, _∙_, ap, ap₂}
+use mathlib.Core.Path.{_≡_, sym, _∙_, ap, ap₂}
 use Prim.Native.Nat.{ℕ, zero, suc, _+_, _-_, _*_, _/_, _%_, _≤_, _<_, max, zero-le}
-use native.Mathlib.Nat.{add-assoc, add-suc, add-zero, sub-le, le-trans, le-of-eq, mul-div-cancel, zero-add, mul-zero, zero-div, div-zero, max-eq-left, mod-add-mod, eq-zero-or-pos}
+use native.Mathlib.Nat.{add-assoc, add-suc, add-zero, sub-le, le-trans, le-of-eq, mul-div-cancel, zero-add, mul-zero, div-zero, max-eq-left, mod-add-mod, eq-zero-or-pos}
 use native.Mathlib.Omega.{arith}
 use Rattle.rules.specs.Periodised.{sumSoFar, periodisedFigure}
 use Rattle.rules.specs.Words.{sum}

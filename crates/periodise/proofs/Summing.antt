@@ -1,6 +1,6 @@
 -- What a loop that adds up figures of 32 bits keeps: the sum of those passed, below 2 ^ 32 for each, so that no sum of 2 ^ 32 of them leaves 64 bits.
 use mathlib.Core.List.{List}
-use mathlib.Core.Path.{_≡_, refl, sym, _∙_, ap}
+use mathlib.Core.Path.{_≡_, refl, _∙_, ap}
 use Prim.Native.Nat.{ℕ, _+_, _*_, _≤_, _<_, _^_, zero-le}
 use native.Mathlib.Numerals.{add-one}
 use native.Mathlib.Omega.{arith}

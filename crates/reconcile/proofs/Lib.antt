@@ -3,3 +3,5 @@ pub mod Invoice
 pub mod Figures
 pub mod Settled
 pub mod Order
+pub mod Unique
+pub mod AddUp

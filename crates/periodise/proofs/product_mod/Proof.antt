@@ -1,6 +1,5 @@
 -- `periodise::product_mod` meets its contract: the product goes by two digits of 20 bits, and what the modulus divides of the first counts for nothing.
 -- Assumes nothing.
-use mathlib.Core.Path.{sym, _∙_, ap}
 use native.Mathlib.Nat.{mul-zero, zero-mod}
 use native.Mathlib.Omega.{arith}
 use borrow.Author.Needs.{needs}
