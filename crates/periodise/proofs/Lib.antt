@@ -1,0 +1,7 @@
+pub mod Digits
+pub mod Growth
+pub mod Turning
+pub mod Spreading
+pub mod Summing
+pub mod Order
+pub mod Unique

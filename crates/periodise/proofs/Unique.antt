@@ -1,0 +1,51 @@
+-- No second result fits: the promise of each public function leaves one answer and one content of what it was lent. And what the service gives, of
+-- any result that meets its promise: its figures add up to E where S is positive, and are 0 where E and S are.
+use mathlib.Core.List.{List}
+use mathlib.Core.Logic.{inr}
+use mathlib.Core.Path.{_≡_, sym, _∙_, ap}
+use Prim.Native.Nat.{ℕ, _<_}
+use lib.ListN.{length}
+use Rattle.answer.specs.Said.{said}
+use Rattle.answer.specs.declared.Answer.{Answer}
+use Rattle.answer.specs.declared.Answer.the-variants.{Done}
+use Rattle.answer.proofs.Said.{said-once}
+use Rattle.rules.specs.Periodised.{periodisedFigure}
+use Rattle.rules.specs.Refusals.{Verdict, first, afterwards}
+use Rattle.rules.specs.Services.{periodisationChecks, periodisationFigures}
+use Rattle.rules.specs.Words.{sum, at}
+use Rattle.rules.proofs.Loops.{figures-at}
+use Rattle.rules.proofs.Periodised.{figures-add-up-to-E, nothing-over-nothing}
+use Rattle.rules.proofs.Sums.{sum-cong}
+
+-- what `periodisation` promises of its answer and of the lent hours
+pub record Promised (e : ℕ) (weights before : List ℕ) (r : Answer) (after : List ℕ) : Type 0 where
+  pub answer : said r ≡ first (periodisationChecks e weights (length before))
+  pub contents : after ≡ afterwards (said r) (periodisationFigures e weights) before
+
+pub periodisation-once : {e : ℕ} {weights before : List ℕ} {r s : Answer} {after later : List ℕ} → Promised e weights before r after → Promised e weights before s later → (r ≡ s) × (after ≡ later)
+periodisation-once {e} {weights} {before} {r} {s} p q = (
+  said-once r s (p .answer ∙ sym (q .answer)),
+  p .contents ∙ ap (λ (v : Verdict). afterwards v (periodisationFigures e weights) before) (p .answer ∙ sym (q .answer)) ∙ sym (q .contents),
+)
+
+module _ {e : ℕ} {weights before : List ℕ} {r : Answer} {after : List ℕ} (p : Promised e weights before r after) (done : r ≡ Done) where
+  given : after ≡ periodisationFigures e weights
+  unfolding afterwards
+  given = p .contents ∙ ap (λ (a : Answer). afterwards (said a) (periodisationFigures e weights) before) done
+
+  -- the figure of each hour
+  pub given-at : (k : ℕ) → k < length weights → at after k ≡ periodisedFigure e (length weights) (at weights) k
+  unfolding at periodisationFigures
+  given-at k b = ap (λ (l : List ℕ). at l k) given ∙ figures-at (length weights) (periodisedFigure e (length weights) (at weights)) k 0 b
+
+  -- THE SERVICE'S FIGURES ADD UP TO E where S is positive
+  pub given-adds-up-to-E : 0 < sum (length weights) (at weights) → sum (length weights) (at after) ≡ e
+  given-adds-up-to-E some = sum-cong (length weights) given-at ∙ figures-add-up-to-E e (length weights) (at weights) some
+
+  -- "With E = 0 and S = 0 every figure is 0."
+  pub given-nothing : sum (length weights) (at weights) ≡ 0 → (k : ℕ) → k < length weights → at after k ≡ 0
+  given-nothing none k b = given-at k b ∙ nothing-over-nothing e (length weights) (at weights) k (inr none)
+
+-- the helpers that other crates call promise that a result, or what a lent list then holds, equals one value
+pub equal-to-one : {A : Type 0} {value r s : A} → r ≡ value → s ≡ value → r ≡ s
+equal-to-one p q = p ∙ sym q

@@ -1,0 +1,3 @@
+pub mod Applied
+pub mod Hour
+pub mod Passes
