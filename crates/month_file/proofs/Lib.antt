@@ -1,3 +1,4 @@
 pub mod Stepping
 pub mod Exits
 pub mod Walking
+pub mod Readers

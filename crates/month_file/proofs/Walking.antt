@@ -195,6 +195,5 @@ pub walk-no-end : (file : List ℕ) (w : Walk) (place : ℕ) → Walking file w 
 walk-no-end file w place k b =
     sym (sym (k .same) ∙ ap (λ (l : List ℕ). readOn (length file - w .records) l (w .records) (k .month)) (drop-of-length-le file b) ∙ none-left (length file - w .records) (w .records) (k .month))
 
-
 pub never-ends : (file : List ℕ) → 1 ≤ length file → length file ≤ 65536 → (w : Walk) (place : ℕ) → Walking file w place → length file ≤ place → refusal fileFault (w .records) ≡ readAnswer (readMonth file)
 never-ends file some short w place k b = ap readAnswer (walk-no-end file w place k b ∙ read-by-records file some short)

@@ -1,16 +1,21 @@
 // A whole month file, read record by record (01 "The month file" and "Refusal numbers"). One pass over the bytes: each record is decoded once and judged by
 // 2, 1, 3, 4, 5, 11, 12, 15 before the next is looked at. What is kept is where the reading stands, a struct by value.
-use answer::{Answer, Refusal};
+use answer::Answer;
+use answer::Refusal;
 use gln::Gln;
-use record::{Heading, Record};
-
+use record::Flows;
+use record::Heading;
+use record::Reading;
+use record::Record;
 ghost use mathlib.Core.Bool.{_&&_};
 ghost use mathlib.Core.Path.{_≡_};
 ghost use Prim.Native.Nat.{_+_, _*_, _≤_, _<_};
-ghost use lib.ListN.{length};
+ghost use lib.ListN.{length, drop};
+ghost use Rattle.record.specs.Record.{recordOf, glnBytes, Whole};
+ghost use Rattle.rules.specs.Record.{recordAt};
+ghost use Rattle.month_file.specs.Fields.{silentFlows, flowsIn, shareIn, priceIn, noReading, readingIn, FixedAsked, RefixedAsked, PriceAsked, ReadingAsked, PartyAsked, FixedIs, RefixedIs, PriceIs, ReadingIs, ShareIs, GlnIs};
 ghost use Rattle.month_file.specs.Walk.{startOf, dueIn, risesIn, numberIn, withIn, Few, Steppable, Stepped, refusedBy, movedIn, countedIn, judgedIn, sectionsIn, told, readAnswer};
 ghost use Rattle.rules.specs.MonthFile.{readMonth};
-
 
 // "At most 65,536 bytes."
 const LONGEST_FILE: usize = 65536;
@@ -84,10 +89,18 @@ fn due(w: Walk, r: Record) -> bool
     match r {
         Record::Heading(_) => hours == 0,
         Record::Party(_) => w.parties < parties,
-        Record::FixedHour(hour, _) => (w.parties == parties) & (w.fixed < hours) & (hour as usize == w.fixed),
+        Record::FixedHour(hour, _) => (w.parties == parties)
+            & (w.fixed < hours)
+            & (hour as usize == w.fixed),
         Record::Reading(_) => (1 <= hours) & (w.prices == hours),
-        Record::Price(hour, _) => (w.fixed == hours) & ((w.refixed == 0) | (w.refixed == hours)) & (w.prices < hours) & (hour as usize == w.prices),
-        Record::RefixedHour(hour, _) => (w.fixed == hours) & (w.refixed < hours) & (w.prices == 0) & (hour as usize == w.refixed),
+        Record::Price(hour, _) => (w.fixed == hours)
+            & ((w.refixed == 0) | (w.refixed == hours))
+            & (w.prices < hours)
+            & (hour as usize == w.prices),
+        Record::RefixedHour(hour, _) => (w.fixed == hours)
+            & (w.refixed < hours)
+            & (w.prices == 0)
+            & (hour as usize == w.refixed),
         Record::End(_) => (1 <= hours) & (w.prices == hours),
     }
 }
@@ -266,4 +279,142 @@ pub fn read(file: &[u8]) -> MonthRead
         }
     }
     MonthRead::Refused(Refusal::FileFault, w.records)
+}
+
+// Readers of an accepted file's fields at a place, for the crates above: each decodes the one record that stands there.
+
+// The record at an offset.
+fn record_at(file: &[u8], offset: usize) -> Record
+    requires { ⌜ (offset ≤ length (now file)) × Whole (drop offset (now file)) ⌝ }
+    ensures { λ r. ⌜ recordOf (glnBytes (drop offset (now (file .entry)))) r ≡ recordAt (drop offset (now (file .entry))) ⌝ }
+{
+    record::decode(&file[offset..])
+}
+
+fn flows_of(r: Record) -> Flows
+    ensures { λ f. ⌜ f ≡ flowsIn r ⌝ }
+{
+    match r {
+        Record::FixedHour(_, f) => f,
+        Record::RefixedHour(_, f) => f,
+        Record::Heading(_) => silent(),
+        Record::Party(_) => silent(),
+        Record::Reading(_) => silent(),
+        Record::Price(_, _) => silent(),
+        Record::End(_) => silent(),
+    }
+}
+
+// What is answered for a record that is no hour's; an accepted file has an hour's there.
+fn silent() -> Flows
+    ensures { λ f. ⌜ f ≡ silentFlows ⌝ }
+{
+    Flows {
+        status: 0,
+        net_wh: 0,
+        production_wh: 0,
+        hourly_wh: 0,
+        flex_wh: 0,
+    }
+}
+
+fn share_of(r: Record) -> u64
+    ensures { λ n. ⌜ n ≡ shareIn r ⌝ }
+{
+    match r {
+        Record::Heading(_) => 0,
+        Record::Party(share) => share,
+        Record::FixedHour(_, _) => 0,
+        Record::Reading(_) => 0,
+        Record::Price(_, _) => 0,
+        Record::RefixedHour(_, _) => 0,
+        Record::End(_) => 0,
+    }
+}
+
+fn price_of(r: Record) -> i64
+    ensures { λ n. ⌜ n ≡ priceIn r ⌝ }
+{
+    match r {
+        Record::Heading(_) => 0,
+        Record::Party(_) => 0,
+        Record::FixedHour(_, _) => 0,
+        Record::Reading(_) => 0,
+        Record::Price(_, price_ore) => price_ore,
+        Record::RefixedHour(_, _) => 0,
+        Record::End(_) => 0,
+    }
+}
+
+fn reading_of(r: Record) -> Reading
+    ensures { λ x. ⌜ x ≡ readingIn r ⌝ }
+{
+    match r {
+        Record::Heading(_) => no_reading(),
+        Record::Party(_) => no_reading(),
+        Record::FixedHour(_, _) => no_reading(),
+        Record::Reading(x) => x,
+        Record::Price(_, _) => no_reading(),
+        Record::RefixedHour(_, _) => no_reading(),
+        Record::End(_) => no_reading(),
+    }
+}
+
+fn no_reading() -> Reading
+    ensures { λ x. ⌜ x ≡ noReading ⌝ }
+{
+    Reading {
+        party: 0,
+        a: 0,
+        b: 0,
+        e_wh: 0,
+    }
+}
+
+// The status and flows of a fixed hour.
+pub fn fixed_flows(file: &[u8], s: Sections, t: usize) -> Flows
+    requires { ⌜ FixedAsked (now file) s t ⌝ }
+    ensures { λ f. ⌜ FixedIs (now (file .entry)) t f ⌝ }
+{
+    flows_of(record_at(file, s.fixed_at + 36 * t))
+}
+
+// The status and flows of a refixed hour.
+pub fn refixed_flows(file: &[u8], s: Sections, t: usize) -> Flows
+    requires { ⌜ RefixedAsked (now file) s t ⌝ }
+    ensures { λ f. ⌜ RefixedIs (now (file .entry)) t f ⌝ }
+{
+    flows_of(record_at(file, s.refixed_at + 36 * t))
+}
+
+// The price of an hour, in øre per MWh.
+pub fn price_ore(file: &[u8], s: Sections, t: usize) -> i64
+    requires { ⌜ PriceAsked (now file) s t ⌝ }
+    ensures { λ n. ⌜ PriceIs (now (file .entry)) t n ⌝ }
+{
+    price_of(record_at(file, s.prices_at + 7 * t))
+}
+
+// A reading.
+pub fn reading(file: &[u8], s: Sections, j: usize) -> Reading
+    requires { ⌜ ReadingAsked (now file) s j ⌝ }
+    ensures { λ x. ⌜ ReadingIs (now (file .entry)) j x ⌝ }
+{
+    reading_of(record_at(file, s.readings_at + 10 * j))
+}
+
+// A party's load share, in kWh per year.
+pub fn load_share(file: &[u8], s: Sections, i: usize) -> u64
+    requires { ⌜ PartyAsked (now file) s i ⌝ }
+    ensures { λ n. ⌜ ShareIs (now (file .entry)) i n ⌝ }
+{
+    share_of(record_at(file, s.parties_at + 22 * i))
+}
+
+// A party's thirteen digits, as the part of the file that holds them.
+pub fn gln_of<'a>(file: &'a [u8], s: Sections, i: usize) -> &'a [u8]
+    requires { ⌜ PartyAsked (now file) s i ⌝ }
+    ensures { λ r. ⌜ GlnIs (now (file .entry)) i (now r) ⌝ }
+{
+    gln::part_at(file, s.parties_at + 22 * i + 1)
 }
