@@ -2,3 +2,4 @@ pub mod Stepping
 pub mod Exits
 pub mod Walking
 pub mod Readers
+pub mod Unique

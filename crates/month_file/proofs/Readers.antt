@@ -159,7 +159,7 @@ module _ (file : List ℕ) (s : Sections) (ok : Accepted file s) (m : MonthFile)
 
 -- The same where only the file and its sections are at hand.
 module _ (file : List ℕ) (s : Sections) where
-  its-month : Accepted file s → (m : MonthFile) × (readMonth file ≡ given m)
+  pub its-month : Accepted file s → (m : MonthFile) × (readMonth file ≡ given m)
   its-month ok = month-in (readMonth file) (ok .is)
 
   pub fixed-decodable : (t : ℕ) → FixedAsked file s t → (s .«fixed_at» + 36 * t ≤ length file) × Whole (drop (s .«fixed_at» + 36 * t) file)

@@ -149,7 +149,7 @@ fn with(w: Walk, r: Record, g: Gln) -> Walk
 
 impl Walk {
     // One record, at the start of the bytes that are left: 2, 1, 3, 4, 5, 11, 12, 15.
-    pub fn step(self, rest: &[u8]) -> Step
+    fn step(self, rest: &[u8]) -> Step
         requires { ⌜ Steppable self (now rest) ⌝ }
         ensures { λ r. ⌜ Stepped self (now (rest .entry)) r ⌝ }
     {
