@@ -41,11 +41,11 @@ module _ {n top : ℕ} (small : top < 2 ^ 64) where
     upper-half = toZ-ofZ upper-fits ∙ upper ∙ rw (lt-leb n (top / 2) h)
 
 -- WRITING: z as a number of that width
-above : (z : ℤ) → leZ (pos 0) z ≡ true → T (nonNeg z) × (z ≡ pos (mag z))
+pub above : (z : ℤ) → leZ (pos 0) z ≡ true → T (nonNeg z) × (z ≡ pos (mag z))
 above (pos n) e = (tt, refl)
 above (negsuc n) e = let q : _≡_ {A = ℕ} 0 1 = cc in absurd (omega arith)
 
-below : (z : ℤ) → leZ (pos 0) z ≡ false → z ≡ negsuc (mag z)
+pub below : (z : ℤ) → leZ (pos 0) z ≡ false → z ≡ negsuc (mag z)
 below (pos n) e = let q : _≡_ {A = ℕ} 0 1 = cc (leb·zero n) in absurd (omega arith)
 below (negsuc n) e = refl
 

@@ -74,7 +74,7 @@ set-at-start bytes out h =
     sets-eq bytes out 0 (rw (zero-add (length bytes)) h) ∙ ap (λ (n : ℕ). bytes ++ drop n out) (zero-add (length bytes))
 
 -- what the writer promises under a verdict: its answer, and what the part then holds
-abbrev Promised : Record → List ℕ → Verdict → Answer ℕ → List ℕ → Type 0
+abbrev pub Promised : Record → List ℕ → Verdict → Answer ℕ → List ℕ → Type 0
 Promised r out v a after = (a ≡ answer v (length (recordBytes r))) × (after ≡ afterwards v (written r out) out)
 
 -- 16, or the bytes
