@@ -5,7 +5,7 @@ use lib.ListN.{getD}
 use mir.Facts.{toZ-ofZ}
 use mir.Syntax.{w64}
 use mir.Val.{SFits}
-use Rattle.record.specs.declared.Record.the-variants.{Heading, Party, FixedHour, Reading, Price, RefixedHour, End}
+use Rattle.record.specs.declared.Record.the-variants.{Heading, Party, FixedHour, Reading, RefixedHour, End}
 use Rattle.rules.specs.Words.{at}
 use Rattle.record_plain.specs.Plain.{fieldCount, plainRecord}
 use native.Mathlib.Omega.{arith}
