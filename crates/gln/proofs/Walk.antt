@@ -2,9 +2,9 @@
 -- be added say together what the whole says.
 use mathlib.Core.Bool.{Bool, true, false, cond, _&&_}
 use mathlib.Core.List.{List, [], _∷_}
-use mathlib.Core.Path.{_≡_, refl, sym, _∙_, ap, subst}
-use Prim.Native.Nat.{ℕ, zero, suc, _+_, _-_, _*_, _%_, _^_, _≤_, _<_, zero-le}
-use native.Mathlib.Nat.{pow-le-pow-right, pow-suc, mul-le-mul-left, mul-le-mul}
+use mathlib.Core.Path.{_≡_, refl, sym, _∙_, ap}
+use Prim.Native.Nat.{ℕ, suc, _+_, _-_, _*_, _%_, _^_, _≤_, _<_, zero-le}
+use native.Mathlib.Nat.{pow-le-pow-right, pow-suc, mul-le-mul}
 use native.Mathlib.Numerals.{add-one}
 use native.Mathlib.Omega.{arith}
 use borrow.Author.Tests.{le-leb, lt-leb, eq-eqb, ne-eqb}
@@ -12,7 +12,6 @@ use lib.Dec.{eqb, leb}
 use lib.ListN.{length, getD, take, drop, drop-of-length-le}
 use lib.Seq.{drop-cons}
 use Rattle.gln.specs.Gln.{glnAnswer, glnPart}
-use Rattle.gln.specs.declared.Gln.{Gln}
 use Rattle.gln.specs.declared.Gln.the-variants.{Valid, Invalid}
 use Rattle.rules.specs.Gln.{allDigits, digitFromRight, weightFromRight, weightedSum, validGln, digitsOnto}
 use Rattle.rules.specs.Words.{sum, at, within}

@@ -1,14 +1,13 @@
 -- Fields as bytes: a loop over them keeps what is left. A number is read from what was gathered and the bytes left; bytes are written so that what is
 -- left to write, on what is written, gives the whole.
-use mathlib.Core.Bool.{Bool, true, false, cond}
-use mathlib.Core.List.{List, [], _∷_, _++_, append-nil}
-use mathlib.Core.Path.{_≡_, refl, sym, _∙_, ap, ap₂, subst}
-use Prim.Native.Nat.{ℕ, zero, suc, _+_, _-_, _*_, _/_, _%_, _^_, _≤_, _<_, zero-le}
+use mathlib.Core.List.{List, [], _∷_, _++_}
+use mathlib.Core.Path.{_≡_, refl, sym, _∙_, ap, ap₂}
+use Prim.Native.Nat.{ℕ, suc, _+_, _-_, _*_, _/_, _%_, _^_, _≤_, _<_, zero-le}
 use native.Mathlib.Nat.{add-zero, add-suc, suc-add, sub-zero, pow-le-pow-right, pow-suc}
 use native.Mathlib.Numerals.{add-one}
 use native.Mathlib.Omega.{arith}
-use lib.ListN.{length, getD, take, drop, set, length-append, length-set, drop-of-length-le}
-use lib.Seq.{sets, sets-eq, length-sets, drop-cons, set-comm}
+use lib.ListN.{length, getD, take, drop, set, length-set, drop-of-length-le}
+use lib.Seq.{sets, length-sets, drop-cons, set-comm}
 use Rattle.record.specs.Fields.{glue, total}
 use Rattle.rules.specs.Record.{numberOnto, bytesOf}
 use Rattle.rules.proofs.RoundTrip.{bytes-length}

@@ -2,12 +2,12 @@
 -- and one law over `top` serves 4 bytes and 8.
 use mathlib.Core.Bool.{Bool, true, false, cond}
 use mathlib.Core.Path.{_≡_, refl, sym, _∙_, ap}
-use Prim.Native.Nat.{ℕ, zero, suc, _+_, _-_, _*_, _/_, _^_, _≤_, _<_}
+use Prim.Native.Nat.{ℕ, zero, suc, _-_, _/_, _^_, _≤_, _<_}
 use native.Mathlib.Nat.{zero-add}
 use native.Mathlib.Omega.{arith}
 use borrow.Author.Tests.{le-leb, lt-leb, le-ltb}
-use lib.Dec.{T, leb, ltb, leb·zero, leb·suc-suc}
-use lib.IntN.{ℤ, pos, negsuc, natAbs, negℤ, _+ℤ_, _-ℤ_}
+use lib.Dec.{T, leb·zero, leb·suc-suc}
+use lib.IntN.{ℤ, pos, negsuc, natAbs, _-ℤ_}
 use lib.Signed.{mag, leZ, nonNeg}
 use mir.Facts.{toZ-ofZ, toZ-pos}
 use mir.Syntax.{w64}
@@ -41,11 +41,11 @@ module _ {n top : ℕ} (small : top < 2 ^ 64) where
     upper-half = toZ-ofZ upper-fits ∙ upper ∙ rw (lt-leb n (top / 2) h)
 
 -- WRITING: z as a number of that width
-above : (z : ℤ) → leZ (pos 0) z ≡ true → T (nonNeg z) × (z ≡ pos (mag z))
+pub above : (z : ℤ) → leZ (pos 0) z ≡ true → T (nonNeg z) × (z ≡ pos (mag z))
 above (pos n) e = (tt, refl)
 above (negsuc n) e = let q : _≡_ {A = ℕ} 0 1 = cc in absurd (omega arith)
 
-below : (z : ℤ) → leZ (pos 0) z ≡ false → z ≡ negsuc (mag z)
+pub below : (z : ℤ) → leZ (pos 0) z ≡ false → z ≡ negsuc (mag z)
 below (pos n) e = let q : _≡_ {A = ℕ} 0 1 = cc (leb·zero n) in absurd (omega arith)
 below (negsuc n) e = refl
 

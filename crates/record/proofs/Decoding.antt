@@ -2,17 +2,15 @@
 -- their places, are those that the rules cut out of the body.
 use mathlib.Core.Bool.{true}
 use mathlib.Core.List.{List, [], _∷_}
-use mathlib.Core.Path.{_≡_, refl, sym, _∙_, ap, ap₂}
+use mathlib.Core.Path.{_≡_, refl, sym, _∙_, ap}
 use Prim.Native.Nat.{ℕ, zero, suc, _+_, _≤_}
 use native.Mathlib.Omega.{arith}
 use borrow.Author.Tests.{le-leb}
 use Rattle.gln.specs.Gln.{glnPart}
-use lib.IntN.{ℤ}
 use lib.ListN.{length, getD, take, drop}
 use lib.Seq.{drop-drop}
 use Rattle.record.specs.Record.{Whole, recordAs, flowsAt, glnBytes}
-use Rattle.rules.specs.Flows as RFlows
-use Rattle.rules.specs.Record.{Record, heading, party, fixedHour, reading, price, refixedHour, end, numberOnto, signed, recordFrom, recordAt, cutInto, fieldWidths, field, numberAt, flowsFrom, kindAt, known, bodyLength}
+use Rattle.rules.specs.Record.{heading, party, fixedHour, reading, price, refixedHour, end, numberOnto, signed, recordFrom, recordAt, cutInto, fieldWidths, field, numberAt, flowsFrom, kindAt, known, bodyLength}
 use Rattle.rules.specs.Words.{at}
 
 -- the number in a width from a place on

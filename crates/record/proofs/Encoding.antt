@@ -1,6 +1,6 @@
 -- A record's bytes are its fields glued together, each in its width, after its kind.
 use mathlib.Core.List.{List, [], _∷_, _++_, append-assoc, append-nil}
-use mathlib.Core.Path.{_≡_, refl, sym, _∙_, ap}
+use mathlib.Core.Path.{_≡_, sym, _∙_, ap}
 use Prim.Native.Nat.{ℕ, _%_, _<_}
 use native.Mathlib.Omega.{arith}
 use lib.IntN.{ℤ}
@@ -11,7 +11,7 @@ use mir.Syntax.{w64}
 use mir.Val.{SFits, toZ, ofZ}
 use Rattle.record.specs.Fields.{glue, uncomplemented}
 use Rattle.rules.specs.Flows.{Flows}
-use Rattle.rules.specs.Record.{Heading, Reading, heading, party, reading, price, end, bytesOf, unsigned, recordBytes, flowsBytes}
+use Rattle.rules.specs.Record.{Heading, Reading, heading, party, reading, price, end, bytesOf, recordBytes, flowsBytes}
 use Rattle.record.proofs.Bytes.{sets-append}
 use Rattle.record.proofs.Complement.{unsigned-4, unsigned-8}
 

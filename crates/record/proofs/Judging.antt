@@ -16,8 +16,6 @@ use Rattle.gln.specs.declared.Gln.the-variants.{Valid, Invalid}
 use Rattle.record.specs.Record.{recordOf, glnIn, glnSound, faultOf, readingOf}
 use Rattle.record.specs.declared.Record.{Record}
 use Rattle.record.specs.declared.Record.the-variants.{Heading, Party, FixedHour, Reading, Price, RefixedHour, End}
-use Rattle.record.specs.declared.Heading as CHeading
-use Rattle.record.specs.declared.Flows as CFlows
 use Rattle.record.specs.declared.Reading as CReading
 use Rattle.rules.specs.Gln.{validGln, digitsOnto}
 use Rattle.rules.specs.Record as R

@@ -1,12 +1,10 @@
 -- Demand 2, of the two functions together: what `write` wrote, `read_alone` reads as the same record; what `read_alone` read, `write` writes as the same
 -- bytes. Each follows from the two promises and the round trips of the rules. What is asked besides is what the machine's types give: an end count of 32
 -- bits, bytes below 256.
-use mathlib.Core.List.{List, [], _∷_, _++_}
-use mathlib.Core.Path.{_≡_, refl, sym, _∙_, ap}
+use mathlib.Core.List.{List, _++_}
+use mathlib.Core.Path.{_≡_, sym, _∙_, ap}
 use Prim.Native.Nat.{ℕ, _+_, _≤_}
-use native.Mathlib.Omega.{arith}
 use borrow.Author.Tests.{le-leb}
-use lib.Dec.{leb}
 use lib.ListN.{length, take, drop}
 use lib.Seq.{length-take-le}
 use Rattle.record.specs.Record.{recordOf, glnBytes, roomFor, told, wrote}
@@ -16,7 +14,7 @@ use Rattle.record.specs.declared.Record as Code′
 use Rattle.record.specs.declared.Written as Code″
 use Rattle.record.specs.declared.Written.the-variants.{Bytes}
 use Rattle.rules.specs.Record.{Record, bodyLength, kindAt, fieldChecks, recordBytes, readAlone, writeVerdict, written}
-use Rattle.rules.specs.Refusals.{Verdict, accepted, Answer, given, unless, andThen, first, answer, afterwards}
+use Rattle.rules.specs.Refusals.{Verdict, accepted, given, unless, andThen, first, answer, afterwards}
 use Rattle.rules.proofs.Refusals.{both-accept}
 use Rattle.rules.proofs.RoundTrip as R
 use Rattle.record.proofs.WriteOne.{verdict-is}

@@ -3,7 +3,7 @@
 use mathlib.Core.List.{List}
 use mathlib.Core.Path.{_≡_, refl, sym, _∙_, ap}
 use Prim.Native.Nat.{ℕ}
-use Rattle.answer.specs.Said.{named, said}
+use Rattle.answer.specs.Said.{said}
 use Rattle.answer.specs.declared.Answer.{Answer}
 use Rattle.answer.proofs.Said.{said-once, named-once}
 use Rattle.gln.specs.declared.Gln.{Gln}

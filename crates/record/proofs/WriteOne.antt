@@ -1,6 +1,6 @@
 -- Writing one record: a record without fault has the length that its kind says, so the code's test of the part's length is the rules' 16, and what is set
 -- at the part's start is the record's bytes with the rest of the part after them.
-use mathlib.Core.Bool.{Bool, true, false, _&&_}
+use mathlib.Core.Bool.{true, _&&_}
 use mathlib.Core.List.{List, [], _∷_, _++_}
 use mathlib.Core.Path.{_≡_, refl, sym, _∙_, ap}
 use Prim.Native.Nat.{ℕ, _+_, _≤_, _<_}
@@ -17,10 +17,9 @@ use Rattle.answer.specs.declared.Answer as A
 use Rattle.answer.specs.declared.Answer.the-variants.{Done, Refused}
 use Rattle.answer.specs.declared.Refusal as A′
 use Rattle.gln.specs.declared.Gln.{Gln}
-use Rattle.record.specs.Record.{recordOf, kindOf, glnIn, faultOf, Writable, roomFor, wrote}
+use Rattle.record.specs.Record.{recordOf, kindOf, glnIn, faultOf, Writable, roomFor}
 use Rattle.record.specs.declared.Record as C
 use Rattle.record.specs.declared.Record.the-variants.{Heading, Party, FixedHour, Reading, Price, RefixedHour, End}
-use Rattle.record.specs.declared.Written as W
 use Rattle.rules.specs.Record.{Record, bodyLength, fieldChecks, recordBytes, inRange, glnRight, writeVerdict, written}
 use Rattle.rules.specs.Refusals.{Verdict, accepted, refused, wrongLength, Answer, given, refusal, unless, andThen, first, answer, afterwards}
 use Rattle.rules.specs.Words.{at, withinℤ}
@@ -74,7 +73,7 @@ set-at-start bytes out h =
     sets-eq bytes out 0 (rw (zero-add (length bytes)) h) ∙ ap (λ (n : ℕ). bytes ++ drop n out) (zero-add (length bytes))
 
 -- what the writer promises under a verdict: its answer, and what the part then holds
-abbrev Promised : Record → List ℕ → Verdict → Answer ℕ → List ℕ → Type 0
+abbrev pub Promised : Record → List ℕ → Verdict → Answer ℕ → List ℕ → Type 0
 Promised r out v a after = (a ≡ answer v (length (recordBytes r))) × (after ≡ afterwards v (written r out) out)
 
 -- 16, or the bytes

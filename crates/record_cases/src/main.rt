@@ -205,10 +205,37 @@ fn more_writes() {
     write_case(Record::Price(0, 5000001), b"");
 }
 
+fn plain_case(kind: u64, numbers: &[i64]) {
+    io::write_all(OUT, b"plain ");
+    let mut part = [0u8; 36];
+    let w = record_plain::write_plain(kind, numbers, b"6291041500213", &mut part);
+    match w {
+        Written::Bytes(n) => {
+            io::print_decimal(OUT, n as u64);
+            io::write_all(OUT, b" bytes, ");
+            read_case(&part);
+        }
+        Written::Refused(x, place) => refused(x, place),
+    }
+}
+
+fn plains() {
+    plain_case(8, &[0i64; 1]);
+    plain_case(2, &[1000i64]);
+    plain_case(2, &[1000i64, 0]);
+    plain_case(2, &[-1i64]);
+    plain_case(6, &[744i64, 2, -8000000000, 0, 0, 0]);
+    plain_case(4, &[63i64, 65536, 65537, 0]);
+    plain_case(4, &[63i64, 0, 1, 4294967296]);
+    plain_case(5, &[0i64, -5000000]);
+    plain_case(7, &[4294967296i64]);
+}
+
 fn main() {
     glns();
     reads();
     more_reads();
     writes();
     more_writes();
+    plains();
 }

@@ -4,19 +4,19 @@ use mathlib.Core.Bool.{Bool, true, false, cond, _&&_}
 use mathlib.Core.List.{List, [], _∷_, _++_, append-assoc, append-nil}
 use mathlib.Core.Path.{_≡_, refl, sym, _∙_, ap, ap₂}
 use Prim.Native.Nat.{ℕ, zero, suc, _+_, _-_, _*_, _/_, _%_, _^_, _≤_, _<_}
-use native.Mathlib.Nat.{pow-suc, add-zero, suc-add, not-suc-le-zero, le-of-suc-le-suc}
+use native.Mathlib.Nat.{pow-suc}
 use native.Mathlib.Numerals.{one-add}
 use native.Mathlib.Omega.{arith}
-use borrow.Author.Tests.{ltb-true, leb-true, eqb-true, lt-ltb, le-ltb, le-leb, lt-leb}
+use borrow.Author.Tests.{ltb-true, leb-true, eqb-true, lt-ltb, le-ltb, le-leb}
 use lib.Dec.{eqb, leb, ltb}
-use lib.IntN.{ℤ, pos, negsuc, negℤ}
-use lib.ListN.{length, getD, take, drop, length-append, length-take, length-drop, List·getD-eq-default}
-use lib.Seq.{take-at, drop-at, drop-cons, take-suc, take-add, take-all, getD-take, getD-drop, drop-drop, length-take-le}
+use lib.IntN.{ℤ, pos, negsuc}
+use lib.ListN.{length, getD, take, drop, length-append, length-drop}
+use lib.Seq.{take-at, drop-at, drop-cons, take-suc, take-add, take-all, getD-drop, length-take-le}
 use lib.Signed.{mag, leZ}
 use Rattle.rules.specs.Flows.{Flows, flowsInRange, silentIsZero}
 use Rattle.rules.specs.Gln.{validGln, allDigits, weightedSum}
-use Rattle.rules.specs.Record.{Heading, Party, Reading, Record, heading, party, fixedHour, reading, price, refixedHour, end, bodyLength, known, fieldWidths, cutInto, numberOnto, bytesOf, signed, unsigned, field, numberAt, flowsFrom, recordFrom, kindAt, recordAt, flowsBytes, recordBytes, inRange, glnRight, spanRight, energyRight, fieldChecks, readAlone}
-use Rattle.rules.specs.Refusals.{Verdict, accepted, refused, Answer, given, refusal, unless, andThen, first, answer}
+use Rattle.rules.specs.Record.{Heading, Reading, Record, heading, party, fixedHour, reading, price, refixedHour, end, bodyLength, known, fieldWidths, cutInto, numberOnto, bytesOf, signed, unsigned, field, numberAt, flowsFrom, recordFrom, kindAt, recordAt, flowsBytes, recordBytes, inRange, glnRight, spanRight, energyRight, fieldChecks, readAlone}
+use Rattle.rules.specs.Refusals.{Verdict, accepted, refused, given, unless, andThen, first, answer}
 use Rattle.rules.specs.Words.{at, within, withinℤ}
 use Rattle.rules.proofs.Refusals.{accepted-exactly, unless-exactly}
 

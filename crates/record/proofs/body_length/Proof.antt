@@ -1,6 +1,6 @@
 -- `record::body_length` meets its contract: the table's rule is a test at each of its 256 entries, which antt computes. Assumes nothing.
 use mathlib.Core.Bool.{Bool}
-use mathlib.Core.List.{List, [], _∷_}
+use mathlib.Core.List.{List, _∷_}
 use Prim.Native.Nat.{ℕ}
 use borrow.Author.Needs.{needs}
 use lib.Dec.{eqb, eqb→eq}
