@@ -1,6 +1,8 @@
 // The rule of a record's fields (01 "Numbers that bound it"): 4, "another field outside its range", for each kind.
 use crate::Flows;
 use crate::Heading;
+use crate::MOST_HOURS;
+use crate::MOST_PARTIES;
 use crate::Reading;
 use crate::Record;
 use answer::Answer;
@@ -18,16 +20,48 @@ ghost use Rattle.rules.specs.Words.{withinℤ};
 ghost use Rattle.rules.specs.Flows.{flowsInRange, silentIsZero};
 ghost use Rattle.rules.specs.Record.{heading, reading, inRange, spanRight, energyRight};
 
+// "Numbers that bound it": each limit under its sentence. "Area 1..999. Year 2000..2099. Month 1..12."
+const GREATEST_AREA: u16 = 999;
+
+const EARLIEST_YEAR: u16 = 2000;
+
+const LATEST_YEAR: u16 = 2099;
+
+const MONTHS_OF_A_YEAR: u8 = 12;
+
+// "Load share 0..4,000,000,000"
+const GREATEST_SHARE_KWH: u64 = 4000000000;
+
+// "Net supply -8,000,000,000..8,000,000,000; other flows 0..8,000,000,000."
+const LEAST_NET_WH: i64 = -8000000000;
+
+const GREATEST_NET_WH: i64 = 8000000000;
+
+const GREATEST_FLOW_WH: u64 = 8000000000;
+
+// "Price -5,000,000..5,000,000."
+const LEAST_PRICE_ORE: i64 = -5000000;
+
+const GREATEST_PRICE_ORE: i64 = 5000000;
+
+// "E at most 1,000,000,000."
+const GREATEST_ENERGY_WH: u32 = 1000000000;
+
+// "Each hour has a status: 0 missing, 1 measured, 2 estimated."
+const MEASURED: u8 = 1;
+
+const ESTIMATED: u8 = 2;
+
 // "Area 1..999. Year 2000..2099. Month 1..12. H 1..745. P 1..64; loss carrier .. below P."
 fn heading_in_range(h: Heading) -> bool
     ensures { λ b. ⌜ b ≡ inRange 0 0 (heading (headingOf h)) ⌝ }
 {
     (1 <= h.area)
-        & (h.area <= 999)
-        & ((2000 <= h.year) & (h.year <= 2099))
-        & ((1 <= h.month) & (h.month <= 12))
-        & ((1 <= h.hours) & (h.hours <= 745))
-        & ((1 <= h.parties) & (h.parties <= 64))
+        & (h.area <= GREATEST_AREA)
+        & ((EARLIEST_YEAR <= h.year) & (h.year <= LATEST_YEAR))
+        & ((1 <= h.month) & (h.month <= MONTHS_OF_A_YEAR))
+        & ((1 <= h.hours) & (h.hours <= MOST_HOURS))
+        & ((1 <= h.parties) & (h.parties <= MOST_PARTIES))
         & (h.carrier < h.parties)
 }
 
@@ -35,14 +69,14 @@ fn heading_in_range(h: Heading) -> bool
 fn net_in_range(z: i64) -> bool
     ensures { λ b. ⌜ b ≡ withinℤ 8000000000 z ⌝ }
 {
-    (-8000000000 <= z) & (z <= 8000000000)
+    (LEAST_NET_WH <= z) & (z <= GREATEST_NET_WH)
 }
 
 // "Price -5,000,000..5,000,000."
 fn price_in_range(z: i64) -> bool
     ensures { λ b. ⌜ b ≡ withinℤ 5000000 z ⌝ }
 {
-    (-5000000 <= z) & (z <= 5000000)
+    (LEAST_PRICE_ORE <= z) & (z <= GREATEST_PRICE_ORE)
 }
 
 // "With status 0 a figure other than 0 is refused with 4": a figure of 0 is the only one that is neither above nor below it.
@@ -56,13 +90,13 @@ fn is_zero(z: i64) -> bool
 fn flows_in_range(f: Flows) -> bool
     ensures { λ b. ⌜ b ≡ flowsInRange (flowsOf f) && silentIsZero (flowsOf f) ⌝ }
 {
-    let range = (f.status <= 2)
+    let range = (f.status <= ESTIMATED)
         & net_in_range(f.net_wh)
-        & (f.production_wh <= 8000000000)
-        & (f.hourly_wh <= 8000000000)
-        & (f.flex_wh <= 8000000000);
+        & (f.production_wh <= GREATEST_FLOW_WH)
+        & (f.hourly_wh <= GREATEST_FLOW_WH)
+        & (f.flex_wh <= GREATEST_FLOW_WH);
     let silent = is_zero(f.net_wh) & (f.production_wh == 0) & (f.hourly_wh == 0) & (f.flex_wh == 0);
-    range & ((1 <= f.status) | silent)
+    range & ((MEASURED <= f.status) | silent)
 }
 
 // 4, by kind: "Load share 0..4,000,000,000", "loss carrier and a reading's party below P", hour fields below H.
@@ -71,7 +105,7 @@ pub fn in_range(r: Record, hours: u16, parties: u8) -> bool
 {
     match r {
         Record::Heading(h) => heading_in_range(h),
-        Record::Party(share) => share <= 4000000000,
+        Record::Party(share) => share <= GREATEST_SHARE_KWH,
         Record::FixedHour(hour, f) => (hour < hours) & flows_in_range(f),
         Record::Reading(x) => x.party < parties,
         Record::Price(hour, price) => (hour < hours) & price_in_range(price),
@@ -100,7 +134,7 @@ pub fn reading_fault(r: Reading, hours: u16, place: usize) -> Answer
     if hours < r.b {
         return Answer::Refused(Refusal::SpanFault, place);
     }
-    if 1000000000 < r.e_wh {
+    if GREATEST_ENERGY_WH < r.e_wh {
         return Answer::Refused(Refusal::EnergyTooLarge, place);
     }
     Answer::Done
