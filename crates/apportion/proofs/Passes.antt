@@ -20,7 +20,7 @@ use Rattle.rules.specs.Limits.{mostHours, mostParties, greatestShare, greatestW
 use Rattle.rules.specs.Refusals.{outOfRange, wOutOfRange, residualTooLarge, wrongLength, Verdict, accepted, refused, unless, andThen, first, afterwards}
 use Rattle.rules.specs.Services.{checkAt, eachAt, distributionChecks, distributionFigures}
 use Rattle.rules.specs.Words.{at, atMost, within}
-use Rattle.rules.proofs.Refusals.{both-accept, in-turn-exactly, unless-exactly}
+use Rattle.rules.proofs.Refusals.{both-accept, in-turn-exactly, unless-exactly, then-accepted, then-assoc}
 use Rattle.rules.proofs.Whole.{both-pass, within-is}
 
 -- every value of a list that passed is within its limit
@@ -49,20 +49,10 @@ module _ (shares residuals : List ℕ) (out : List ℤ) where
   abbrev Meets : Answer → List ℤ → Type 0
   Meets a now = (said a ≡ verdict) × (now ≡ afterwards (said a) (distributionFigures shares residuals) out)
 
-  then-accepted : (v : Verdict) → andThen v accepted ≡ v
-  unfolding andThen
-  then-accepted accepted = refl
-  then-accepted (refused r place) = refl
-
-  then-assoc : (a b c : Verdict) → andThen (andThen a b) c ≡ andThen a (andThen b c)
-  unfolding andThen
-  then-assoc accepted b c = refl
-  then-assoc (refused r place) b c = refl
-
   passes : verdict ≡ andThen shaped (andThen fitting (andThen weighed limited))
   unfolding distributionChecks first shapeVerdict wVerdict
   passes =
-      sym (then-assoc _ _ _)
+      then-assoc _ _ _
       ∙ ap (λ (v : Verdict). andThen shaped (andThen fitting (andThen weighed v))) (then-accepted limited)
 
   -- an answer that refuses ends the call; the list is as it was

@@ -30,7 +30,7 @@ use Rattle.rules.specs.MonthFile.{MonthFile, H, P, due, risesAfter, glnRises, c
 use Rattle.rules.specs.MonthFile as F
 use Rattle.rules.specs.Record as R
 use Rattle.rules.specs.Refusals.{fileFault, unknownKind, outOfOrder, glnFault, wrongCount, Verdict, accepted, refused, unless, andThen, first}
-use Rattle.rules.proofs.Refusals.{accepted-exactly, unless-exactly, first-append}
+use Rattle.rules.proofs.Refusals.{accepted-exactly, unless-exactly, first-append, then-accepted}
 
 -- what rises after one party more
 rises-after-one-more : (l : List R.Party) (q p : R.Party) → risesAfter (l ++ (q ∷ [])) p ≡ rises (q .gln) (p .gln)
@@ -105,11 +105,6 @@ module _ (m : MonthFile) (w : Walk) (st : Stands m w) where
       record { heading = st .heading; parties = st .parties; fixed = st .fixed; refixed = one-more (m .refixed) _ (st .refixed); prices = st .prices; readings = st .readings; rising = st .rising }
   stands-with gln (End count) s =
       record { heading = st .heading; parties = st .parties; fixed = st .fixed; refixed = st .refixed; prices = st .prices; readings = st .readings; rising = st .rising }
-
-then-accepted : (v : Verdict) → andThen v accepted ≡ v
-unfolding andThen
-then-accepted accepted = refl
-then-accepted (refused r place) = refl
 
 -- a record of any kind but the end is accepted, and the reading goes on; the end is accepted where its count is right
 module _ (m : MonthFile) (w : Walk) (bytes : List ℕ) (size : ℕ) (gln : List ℕ) where

@@ -21,6 +21,7 @@ use Rattle.rules.specs.Gln.{validGln, digitsOnto}
 use Rattle.rules.specs.Record as R
 use Rattle.rules.specs.Refusals.{Verdict, accepted, refused, glnFault, spanFault, energyTooLarge, outOfRange, unless, andThen, first}
 use Rattle.rules.specs.Words.{withinℤ}
+use Rattle.rules.proofs.Refusals.{then-accepted}
 
 -- a test of both ends of a range of signed numbers, on the bits that a signed local holds
 pub within-bits : (most : ℕ) (z : ℤ) → SFits w64 z → leZ (negsuc most) (toZ w64 (ofZ w64 z)) && leZ (toZ w64 (ofZ w64 z)) (pos (suc most)) ≡ withinℤ (suc most) z
@@ -88,11 +89,6 @@ and-assoc true b c = refl
 and-assoc false b c = refl
 
 -- "4, 5, 11, 12": 4 ends it; within its ranges, a record of each kind has what is left for its kind
-then-accepted : (v : Verdict) → andThen v accepted ≡ v
-unfolding andThen
-then-accepted accepted = refl
-then-accepted (refused r place) = refl
-
 abbrev pub laterFault : ℕ → ℕ → Gln → Record → Verdict
 laterFault hours place g (Heading h) = accepted
 laterFault hours place g (Party share) = unless (glnSound (Party share) g) glnFault place

@@ -11,22 +11,12 @@ use lib.ListN.{length, getD, take, set, length-append, length-set, List·getD-ap
 use lib.Seq.{take-suc-set, take-all, getD-append-seam, getD-at}
 use Rattle.rules.specs.Refusals.{Refusal, Verdict, accepted, refused, andThen, first, inTurn}
 use Rattle.rules.specs.Words.{figures}
-use Rattle.rules.proofs.Refusals.{first-append}
+use Rattle.rules.proofs.Refusals.{first-append, then-accepted, then-assoc}
 
 -- the checks of k places from i on, the first of them first
 pub fromOn : (ℕ → Verdict) → ℕ → ℕ → Verdict
 fromOn check i zero = accepted
 fromOn check i (suc k) = andThen (check i) (fromOn check (suc i) k)
-
-then-accepted : (v : Verdict) → andThen v accepted ≡ v
-unfolding andThen
-then-accepted accepted = refl
-then-accepted (refused r place) = refl
-
-then-assoc : (a b c : Verdict) → andThen a (andThen b c) ≡ andThen (andThen a b) c
-unfolding andThen
-then-assoc accepted b c = refl
-then-assoc (refused r place) b c = refl
 
 last-of : (check : ℕ → Verdict) (i k : ℕ) → fromOn check i (suc k) ≡ andThen (fromOn check i k) (check (i + k))
 unfolding fromOn andThen

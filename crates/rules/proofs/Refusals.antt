@@ -52,6 +52,17 @@ it-refuses checks r place h = ap first (h .split) ∙ past (h .earlier) (refused
 pub refused-exactly : (checks : List Verdict) (r : Refusal) (place : ℕ) → (first checks ≡ refused r place) ↔ FirstRefuses checks r place
 refused-exactly checks r place = (the-first checks, it-refuses checks r place)
 
+-- Nothing after a judgement changes it; and it does not matter how three are bracketed.
+pub then-accepted : (v : Verdict) → andThen v accepted ≡ v
+unfolding andThen
+then-accepted accepted = refl
+then-accepted (refused r place) = refl
+
+pub then-assoc : (a b c : Verdict) → andThen a (andThen b c) ≡ andThen (andThen a b) c
+unfolding andThen
+then-assoc accepted b c = refl
+then-assoc (refused r place) b c = refl
+
 -- Lists of checks one after the other.
 pub first-append : (checks later : List Verdict) → first (checks ++ later) ≡ andThen (first checks) (first later)
 unfolding first andThen
