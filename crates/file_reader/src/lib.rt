@@ -1,4 +1,4 @@
-// "A reader goes through the file record by record" (01 "The named forms"): "A struct holds the file slice and place; two or three thin functions by
+// "A reader goes through the file record by record" (01 "Expected forms by place"): "A struct holds the file slice and place; two or three thin functions by
 // hand call a covered function on slice and cursor." The borrow checker covers no function over such a struct, so `new`, `next`, `gln_here`, `moved` and
 // `first` are proved by hand; the work stands in `record_here`, `gln_after_kind` and `after`, which take a plain slice and are covered.
 use record::Read;
