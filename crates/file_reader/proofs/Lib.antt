@@ -1,0 +1,3 @@
+pub mod Here
+pub mod Going
+pub mod Unique
