@@ -2,6 +2,7 @@
 use mathlib.Core.Path.{_≡_, _∙_, subst}
 use lib.IntN.{ℤ}
 use mir.Facts.{toZ-ofZ}
+use mir.Syntax.{w64}
 use Rattle.reconcile.proofs.Unique.{Promised}
 use Rattle.settle_c.proofs.Hour.{loss-given, loss-kept, code-given, code-refused, lists-left}
 use borrow.Author.Needs.{needs}
@@ -35,7 +36,7 @@ same-length-2 c = search needs
 returns : tie.Need-returns
 returns c =
     let p = promised (c .before .before .before .before .before) in
-    (code-given p (c .before .answered .given .1), (toZ-ofZ (search needs) ∙ loss-given p _ (c .before .answered .given .1), lists-left p))
+    (code-given p (c .before .answered .given .1), (toZ-ofZ {w = w64} (search needs) ∙ loss-given p _ (c .before .answered .given .1), lists-left p))
 
 same-length-3 : tie.Need-same-length-3
 same-length-3 c = search needs
