@@ -1,0 +1,51 @@
+-- No second result fits: the number that an export answers and what every lent list then holds are each promised to be one value, and the number tells
+-- refusal and place apart.
+use mathlib.Core.Path.{_≡_, sym, _∙_}
+use Prim.Native.Nat.{ℕ, _+_, _*_, _≤_, _<_, _%_, _/_}
+use native.Mathlib.Omega.{arith}
+use Rattle.rules.specs.Refusals.{Refusal, Verdict, refused, numberOf, fileFault, unknownKind, outOfOrder, outOfRange, glnFault, wOutOfRange, missingHour, residualNegative, residualTooLarge, curveTooLarge, spanFault, energyTooLarge, nothingToFollow, periodisedTooLarge, wrongCount, wrongLength}
+use Rattle.settle_c.specs.Coded.{greatestPlace, numberAt, coded}
+use Rattle.settle_c.proofs.Told.{within-place}
+
+pub one-value : {A : Type 0} {value r s : A} → r ≡ value → s ≡ value → r ≡ s
+one-value p q = p ∙ sym q
+
+number-small : (r : Refusal) → (0 < numberOf r) × (numberOf r < 256)
+number-small fileFault = (omega arith, omega arith)
+number-small unknownKind = (omega arith, omega arith)
+number-small outOfOrder = (omega arith, omega arith)
+number-small outOfRange = (omega arith, omega arith)
+number-small glnFault = (omega arith, omega arith)
+number-small wOutOfRange = (omega arith, omega arith)
+number-small missingHour = (omega arith, omega arith)
+number-small residualNegative = (omega arith, omega arith)
+number-small residualTooLarge = (omega arith, omega arith)
+number-small curveTooLarge = (omega arith, omega arith)
+number-small spanFault = (omega arith, omega arith)
+number-small energyTooLarge = (omega arith, omega arith)
+number-small nothingToFollow = (omega arith, omega arith)
+number-small periodisedTooLarge = (omega arith, omega arith)
+number-small wrongCount = (omega arith, omega arith)
+number-small wrongLength = (omega arith, omega arith)
+
+-- what C reads back: the number is the answer's remainder by 256, the place its quotient, and a refusal is never 0
+pub read-number : (r : Refusal) (place : ℕ) → place ≤ greatestPlace → coded (refused r place) % 256 ≡ numberOf r
+unfolding coded
+read-number r place h =
+    let small : (0 < numberOf r) × (numberOf r < 256) = number-small r in
+    let is : numberOf r + 256 * place ≡ numberAt (numberOf r) place = within-place (numberOf r) place h in
+    omega (arith, small .1, is)
+
+pub read-place : (r : Refusal) (place : ℕ) → place ≤ greatestPlace → coded (refused r place) / 256 ≡ place
+unfolding coded
+read-place r place h =
+    let small : (0 < numberOf r) × (numberOf r < 256) = number-small r in
+    let is : numberOf r + 256 * place ≡ numberAt (numberOf r) place = within-place (numberOf r) place h in
+    omega (arith, small .1, is)
+
+pub never-0 : (r : Refusal) (place : ℕ) → place ≤ greatestPlace → 0 < coded (refused r place)
+unfolding coded
+never-0 r place h =
+    let small : (0 < numberOf r) × (numberOf r < 256) = number-small r in
+    let is : numberOf r + 256 * place ≡ numberAt (numberOf r) place = within-place (numberOf r) place h in
+    omega (arith, small .0, is)

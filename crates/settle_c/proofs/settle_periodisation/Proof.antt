@@ -1,0 +1,23 @@
+-- `settle_c::settle_periodisation` meets its contract: the service answers by its checks, and the number is that of its answer. Assumes nothing.
+use Rattle.settle_c.proofs.Told.{coded-by, left-by}
+use borrow.Author.Needs.{needs}
+use Rattle.settle_c.proofs.settle_periodisation.Statement.{statement}
+use Rattle.settle_c.proofs.settle_periodisation.Tie as tie
+
+periodisation-requires : tie.Need-periodisation-requires
+periodisation-requires c κs = search needs
+
+code-requires : tie.Need-code-requires
+code-requires c κs = search needs
+
+same-length : tie.Need-same-length
+same-length c = search needs
+
+returns : tie.Need-returns
+returns c =
+    let promised = c .before .before .before .periodisation .ensures in
+    (coded-by (c .code .ensures) (promised .0), left-by _ _ (promised .1) (promised .0))
+
+pub settle-periodisation-spec : {M : Type 1} → statement M
+settle-periodisation-spec =
+    tie.close (tie.spec periodisation-requires code-requires same-length returns)

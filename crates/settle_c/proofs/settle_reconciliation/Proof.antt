@@ -1,0 +1,65 @@
+-- `settle_c::settle_reconciliation` meets its contract: the service answers by its checks, and only an accepted hour has a loss to hand on. Assumes nothing.
+use mathlib.Core.Path.{_≡_, _∙_, subst}
+use lib.IntN.{ℤ}
+use mir.Facts.{toZ-ofZ}
+use mir.Syntax.{w64}
+use Rattle.reconcile.proofs.Unique.{Promised}
+use Rattle.settle_c.proofs.Hour.{loss-given, loss-kept, code-given, code-refused, lists-left}
+use borrow.Author.Needs.{needs}
+use Rattle.settle_c.proofs.settle_reconciliation.Statement.{statement}
+use Rattle.settle_c.proofs.settle_reconciliation.Tie as tie
+
+-- the promise of the service; the price that is passed on in bits is the price
+promised : (c : tie.After-reconciliation) → Promised (c .before .before .before .before .args .residual-wh) (c .before .before .before .before .args .distributed-wh .now) (c .before .before .before .before .args .periodised-wh .now) (c .before .before .before .before .args .carrier) (c .before .before .before .before .args .price-ore) (c .before .before .before .before .args .differences-wh .now) (c .before .before .before .before .args .amounts-millionths .now) (c .reconciliation .result) (c .reconciliation .last .1 .1 .1 .1 .1 .0) (c .reconciliation .last .1 .1 .1 .1 .1 .1 .0)
+promised c =
+    subst (λ (price : ℤ). Promised (c .before .before .before .before .args .residual-wh) (c .before .before .before .before .args .distributed-wh .now) (c .before .before .before .before .args .periodised-wh .now) (c .before .before .before .before .args .carrier) price (c .before .before .before .before .args .differences-wh .now) (c .before .before .before .before .args .amounts-millionths .now) (c .reconciliation .result) (c .reconciliation .last .1 .1 .1 .1 .1 .0) (c .reconciliation .last .1 .1 .1 .1 .1 .1 .0)) (toZ-ofZ (c .before .before .before .before .fits .price-ore))
+    (record { answers = c .reconciliation .ensures .0; tells = c .reconciliation .ensures .1 .0; holds-differences = c .reconciliation .ensures .1 .1 .0; holds-amounts = c .reconciliation .ensures .1 .1 .1 })
+
+reconciliation-requires : tie.Need-reconciliation-requires
+reconciliation-requires c κs = search needs
+
+enum-known-answered : tie.Need-enum-known-answered
+enum-known-answered c = search needs
+
+enum-known-answered-2 : tie.Need-enum-known-answered-2
+enum-known-answered-2 c = search needs
+
+code-requires : tie.Need-code-requires
+code-requires c κs = search needs
+
+same-length : tie.Need-same-length
+same-length c = search needs
+
+same-length-2 : tie.Need-same-length-2
+same-length-2 c = search needs
+
+returns : tie.Need-returns
+returns c =
+    let p = promised (c .before .before .before .before .before) in
+    (code-given p (c .before .answered .given .1), (toZ-ofZ {w = w64} (search needs) ∙ loss-given p _ (c .before .answered .given .1), lists-left p))
+
+same-length-3 : tie.Need-same-length-3
+same-length-3 c = search needs
+
+same-length-4 : tie.Need-same-length-4
+same-length-4 c = search needs
+
+returns-2 : tie.Need-returns-2
+returns-2 c =
+    let p = promised (c .before .before .before .before .before .before) in
+    (code-refused p (c .before .before .answered2 .given .1) (c .code .ensures), (loss-kept p _ (c .before .before .answered2 .given .1), lists-left p))
+
+pub settle-reconciliation-spec : {M : Type 1} → statement M
+settle-reconciliation-spec =
+    tie.close
+    (tie.spec
+    reconciliation-requires
+    enum-known-answered
+    enum-known-answered-2
+    code-requires
+    same-length
+    same-length-2
+    returns
+    same-length-3
+    same-length-4
+    returns-2)

@@ -1,0 +1,81 @@
+/* The services of settlement, for C. Each takes any input, checks it in the order given, and answers
+ *
+ *     0                       accepted: every lent output holds its figures
+ *     number + 256 x place    refused: the number and the place of 01 ("Refusal numbers"), and nothing is written
+ *
+ * so the number is answer % 256 and the place answer / 256. Places count from 0; where no place is named it is 0.
+ *
+ * A list is a pointer and a length, the number of its elements, in two arguments that follow each other. A list that is
+ * only read is const. No pointer may be null, also not of an empty list; each must be aligned for its element, and a
+ * lent output may not overlap another argument. Every other value of every argument has its answer. No call keeps a
+ * pointer, allocates, or writes anything but its lent outputs, and calls with other outputs may run at once.
+ *
+ * Energies are in Wh, load shares in kWh a year, prices in øre per MWh, amounts in millionths of an øre.
+ * Link with libsettle_c.a, which `rt staticlib settle_c` writes to target/staticlib.
+ */
+#ifndef SAYARIMU_H
+#define SAYARIMU_H
+
+#include <stddef.h>
+#include <stdint.h>
+
+#ifdef __cplusplus
+extern "C" {
+#endif
+
+/* RESIDUAL. The residual of each hour, net supply + production - hourly settled - flex settled, into `out`. A status is 0
+ * missing, 1 measured or 2 estimated. Refuses, in order: 16, `out` not as long as the statuses; 4, lists of unequal length,
+ * then hours outside 1..745, then the first value outside its range at its hour, list by list (statuses, nets, productions,
+ * hourlies, flexes), then the first hour with status 0 and a figure other than 0, at that hour; then, hour by hour, 7
+ * missing, 8 negative, 9 above 2,000,000,000. Lent: `out`. */
+uint64_t settle_residual(const uint8_t *statuses, size_t statuses_len,
+                         const int64_t *nets_wh, size_t nets_len,
+                         const uint64_t *productions_wh, size_t productions_len,
+                         const uint64_t *hourlies_wh, size_t hourlies_len,
+                         const uint64_t *flexes_wh, size_t flexes_len,
+                         uint32_t *out_wh, size_t out_len);
+
+/* CURVE. The curve number of each hour, residual x 1,000,000 / W rounded down, into `out`. Refuses, in order: 16, `out` not
+ * as long as the residuals; 4, hours outside 1..745; 6, W outside 1..4,000,000,000; 9, the first residual above
+ * 2,000,000,000 at its hour; 10, the first curve number above 1,000,000,000 at its hour. Lent: `out`. */
+uint64_t settle_curve(const uint32_t *residuals_wh, size_t residuals_len, uint64_t w_kwh,
+                      uint32_t *out, size_t out_len);
+
+/* DISTRIBUTION. The distributed consumption of every party in every hour into `out`, hour by hour and within an hour party
+ * by party; a figure can be -1. Refuses, in order: 16, `out` not as long as parties x hours; 4, hours outside 1..745 or
+ * parties outside 1..64, then the first share above 4,000,000,000 at its party; 6, the sum of the shares outside
+ * 1..4,000,000,000; 9, the first residual above 2,000,000,000 at its hour. Lent: `out`. */
+uint64_t settle_distribution(const uint64_t *shares_kwh, size_t shares_len,
+                             const uint32_t *residuals_wh, size_t residuals_len,
+                             int64_t *out_wh, size_t out_len);
+
+/* PERIODISATION. A reading's energy E over the weights of its hours into `out`: the growth of E x weights so far / their sum,
+ * rounded down. Refuses, in order: 16, `out` not as long as the weights; 11, weights of 0 or of more than 8,784 hours; 12, E
+ * above 1,000,000,000; 10, the first weight above 1,000,000,000 at its hour; 13, E positive and every weight 0.
+ * Lent: `out`. */
+uint64_t settle_periodisation(uint64_t e_wh, const uint32_t *weights, size_t weights_len,
+                              uint32_t *out_wh, size_t out_len);
+
+/* RECONCILIATION OF ONE HOUR. The grid loss, residual - all periodised, into `loss`; each party's difference, periodised +
+ * (loss, if it carries the loss) - distributed, into `differences`; difference x price into `amounts`. Refuses, in order: 16,
+ * a lent list not as long as the distributed figures; 4, lists of unequal length, parties outside 1..64, carrier not below
+ * the parties or price outside -5,000,000..5,000,000, the first distributed figure outside -1..2,000,000,001 at its party,
+ * the first periodised above 2,000,000,000 at its party, distributed figures that do not add up to the residual; 9, a
+ * residual above 2,000,000,000; 14, more than 2,000,000,000 periodised over all parties. Lent: `differences`, `amounts` and
+ * `loss`. */
+uint64_t settle_reconciliation(uint32_t residual_wh,
+                               const int64_t *distributed_wh, size_t distributed_len,
+                               const uint32_t *periodised_wh, size_t periodised_len,
+                               size_t carrier, int64_t price_ore,
+                               int64_t *differences_wh, size_t differences_len,
+                               int64_t *amounts_millionths, size_t amounts_len,
+                               int64_t *loss_wh);
+
+/* INVOICE. An exact amount in whole øre, to nearest, halves away from zero. Refuses nothing; lent nothing. */
+int64_t settle_invoice_ore(int64_t amount_millionths);
+
+#ifdef __cplusplus
+}
+#endif
+
+#endif

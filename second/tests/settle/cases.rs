@@ -1,0 +1,118 @@
+//! 01's "Figures to check against", and its bounds, through the compiled services.
+
+use crate::compiled::{curve, distribution, invoice_ore, periodisation, reconciliation, residual};
+
+fn residual_of_one(status: u8, flows: (i64, u64, u64, u64)) -> Result<Vec<u32>, (u8, usize)> {
+    let (net, production, hourly, flex) = flows;
+    residual(&[status], &[net], &[production], &[hourly], &[flex], 1)
+}
+
+#[test]
+fn r1_r2_r3() {
+    assert_eq!(residual_of_one(1, (-5, 105, 40, 20)), Ok(vec![40]));
+    assert_eq!(residual_of_one(1, (10, 0, 6, 5)), Err((8, 0)));
+    assert_eq!(residual_of_one(1, (0, 0, 0, 0)), Ok(vec![0]));
+    assert_eq!(residual_of_one(0, (0, 0, 0, 0)), Err((7, 0)));
+}
+
+#[test]
+fn c1_c2_c3() {
+    assert_eq!(curve(&[40_000_000], 10_000_000, 1), Ok(vec![4_000_000]));
+    assert_eq!(curve(&[1], 3, 1), Ok(vec![333_333]));
+    assert_eq!(curve(&[1_000], 1, 1), Ok(vec![1_000_000_000]));
+    assert_eq!(curve(&[1_001], 1, 1), Err((10, 0)));
+}
+
+#[test]
+fn d1_d2_d3() {
+    let turns = vec![1, 0, 0, 0, 1, 0, 0, 0, 1];
+    assert_eq!(distribution(&[1, 1, 1], &[1, 1, 1], 9), Ok(turns));
+    let silent = distribution(&[0, 5], &[7, 0, 2_000_000_000], 6);
+    assert_eq!(silent, Ok(vec![0, 7, 0, 0, 0, 2_000_000_000]));
+    let below = vec![4, 4, 2, 1, 1, -1];
+    assert_eq!(distribution(&[6, 6, 2], &[10, 1], 6), Ok(below));
+}
+
+#[test]
+fn p1_p2_p3() {
+    assert_eq!(periodisation(10, &[1, 1, 1], 3), Ok(vec![3, 3, 4]));
+    assert_eq!(periodisation(1, &[0, 5, 5], 3), Ok(vec![0, 0, 1]));
+    assert_eq!(periodisation(7, &[0, 0], 2), Err((13, 0)));
+    assert_eq!(periodisation(0, &[0, 0], 2), Ok(vec![0, 0]));
+}
+
+#[test]
+fn m1() {
+    assert_eq!(invoice_ore(500_000), 1);
+    assert_eq!(invoice_ore(-500_000), -1);
+    assert_eq!(invoice_ore(499_999), 0);
+}
+
+/// S1 (H2 6.3) service by service: the curve, the distributed figures, and each hour reconciled at its price.
+#[test]
+fn s1() {
+    let file = second::examples::s1().bytes();
+    let month = second::month::settle(&file).unwrap();
+    let applied = &month.refixed_wh;
+    assert_eq!(
+        curve(&month.fixed_wh, 10_000_000, 3),
+        Ok(vec![4_000_000, 5_000_000, 4_000_000])
+    );
+    let figures = distribution(&[1_500_000, 6_000_000, 2_500_000], applied, 9).unwrap();
+    let amounts_dkk = [
+        [565.5, -957.0, 391.5],
+        [858.0, -1221.0, 363.0],
+        [1245.0, -1650.0, 405.0],
+    ];
+    for (hour, settled) in month.hours.iter().enumerate() {
+        let distributed = &figures[3 * hour..3 * hour + 3];
+        assert_eq!(distributed, settled.distributed_wh);
+        let periodised: Vec<u32> = settled.periodised_wh.iter().map(|&wh| wh as u32).collect();
+        let price = [29_000, 33_000, 30_000][hour];
+        let reconciled = reconciliation(applied[hour], distributed, &periodised, 2, price, 3, 3);
+        let (loss, differences, amounts) = reconciled.unwrap();
+        assert_eq!(loss, [1_100_000, 600_000, 1_100_000][hour]);
+        assert_eq!(differences, settled.reconciled.differences_wh);
+        assert_eq!(
+            amounts,
+            amounts_dkk[hour].map(|dkk: f64| (dkk * 1e8) as i64)
+        );
+    }
+}
+
+#[test]
+fn the_bounds_are_accepted_and_one_more_is_refused() {
+    assert!(curve(&[1; 745], 1, 745).is_ok());
+    assert_eq!(curve(&[1; 746], 1, 746), Err((4, 0)));
+    assert!(distribution(&[1; 64], &[1; 745], 64 * 745).is_ok());
+    assert_eq!(distribution(&[1; 65], &[1], 65), Err((4, 0)));
+    assert_eq!(distribution(&[1], &[1; 746], 746), Err((4, 0)));
+    assert!(reconciliation(0, &[0; 64], &[0; 64], 63, 0, 64, 64).is_ok());
+    assert!(reconciliation(0, &[0; 65], &[0; 65], 0, 0, 65, 65) == Err((4, 0)));
+    assert!(periodisation(1, &[1; 8_784], 8_784).is_ok());
+    assert_eq!(periodisation(1, &[1; 8_785], 8_785), Err((11, 0)));
+    assert!(periodisation(1_000_000_000, &[5], 1).is_ok());
+    assert_eq!(periodisation(1_000_000_001, &[5], 1), Err((12, 0)));
+}
+
+/// Lists far above every limit, and empty ones.
+#[test]
+fn far_too_long_and_empty() {
+    let long = 1_000_000;
+    let (bytes, small, large) = (vec![9; long], vec![u32::MAX; long], vec![u64::MAX; long]);
+    let nets = vec![i64::MIN; long];
+    let too_long = residual(&bytes, &nets, &large, &large, &large, long);
+    assert_eq!(too_long, Err((4, 0)));
+    assert_eq!(residual(&[], &[], &[], &[], &[], 0), Err((4, 0)));
+    assert_eq!(curve(&small, 0, long), Err((4, 0)));
+    assert_eq!(curve(&[], 0, 0), Err((4, 0)));
+    assert_eq!(distribution(&large, &small, long), Err((16, 0)));
+    assert_eq!(distribution(&large, &[1], long), Err((4, 0)));
+    assert_eq!(distribution(&large, &[], 0), Err((4, 0)));
+    assert_eq!(distribution(&[], &[], 0), Err((4, 0)));
+    assert_eq!(periodisation(u64::MAX, &small, long), Err((11, 0)));
+    assert_eq!(periodisation(0, &[], 0), Err((11, 0)));
+    let too_many = reconciliation(7, &nets, &small, usize::MAX, i64::MIN, long, long);
+    assert_eq!(too_many, Err((4, 0)));
+    assert_eq!(reconciliation(0, &[], &[], 0, 0, 0, 0), Err((4, 0)));
+}
