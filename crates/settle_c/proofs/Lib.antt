@@ -1,3 +1,4 @@
 pub mod Told
 pub mod Hour
 pub mod Unique
+pub mod Exact

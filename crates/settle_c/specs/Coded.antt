@@ -8,8 +8,8 @@ use Rattle.rules.specs.Refusals.{Refusal, Verdict, accepted, refused, numberOf}
 abbrev pub greatestPlace : ℕ
 greatestPlace = 72057594037927935
 
--- 2 ^ 64 - 1: what a refusal past that place would answer. No service refuses there: each tests H, P or the number of weights before a value's place
--- counts, so its places are below 8,784.
+-- 2 ^ 64 - 1: what a refusal past that place would answer. No service refuses there: its places are below
+-- 8,784 (`proofs/Exact`).
 abbrev pub pastEveryPlace : ℕ
 pastEveryPlace = 18446744073709551615
 
