@@ -15,11 +15,11 @@ use Rattle.rules.specs.Demands.{Demand3}
 use Rattle.rules.specs.Distributed.{distributedFigure, runningAfter}
 use Rattle.rules.specs.Flows.{Flows, Judgement, figure, noFigure, residual, judged, judgedBy, verdictOf, residualWh, appliedSeries, W}
 use Rattle.rules.specs.Limits.{greatestW, greatestResidual, greatestCurveNumber, greatestPeriodised, greatestPrice, mostHours}
-use Rattle.rules.specs.Month.{flowsAt, shareOf, monthW, fixedWh, appliedFlows, appliedWh, priceAt, periodised, allPeriodised, loss, distributed, difference, amount, monthDifference, monthAmount, monthDistributed, monthChecks, monthVerdict, curve}
+use Rattle.rules.specs.Month.{flowsAt, shareOf, monthW, fixedWh, appliedFlows, appliedWh, priceAt, periodised, allPeriodised, loss, distributed, difference, amount, monthDifference, monthAmount, monthDistributed, hourVerdict, curveVerdict, periodisedVerdict, monthChecks, monthVerdict, curve}
 use Rattle.rules.specs.MonthFile.{MonthFile, H, P}
 use Rattle.rules.specs.Reconciliation.{gridLoss, lossOf, differenceOf, amountMillionths}
-use Rattle.rules.specs.Refusals.{Refusal, residualTooLarge, Verdict, accepted, refused, first}
-use Rattle.rules.specs.Words.{sum, sumℤ, withinℤ}
+use Rattle.rules.specs.Refusals.{Refusal, wOutOfRange, residualTooLarge, Verdict, accepted, refused, unless, first, inTurn}
+use Rattle.rules.specs.Words.{sum, sumℤ, within, withinℤ}
 use Rattle.rules.proofs.Demand3.{demand-3, growth-in-range}
 use Rattle.rules.proofs.Integers.{minus-add, minus-near, opposite, pos-minus-zero, size-of-product, size-of-sums, sumℤ-cong, sumℤ-swap, sumℤ-zero, sumℤ-pos}
 use Rattle.rules.proofs.Reconciliation.{differences-add-up, amounts-add-up}
@@ -50,24 +50,34 @@ judged-to-have f t e =
     let h = has-figure (f .status) (residual f) t e in
     record { is-figure = h .0; not-missing = h .1; residual-is = h .2; at-most = h .3 }
 
-module _ (m : MonthFile) (whole : Whole m) (ok : monthVerdict m ≡ accepted) where
-  -- no check of the month refuses
-  none : NoneRefuses (monthChecks m)
-  unfolding monthVerdict
-  none = accepted-exactly (monthChecks m) .0 ok
+-- what the checks of an hour's curve number and of all that is periodised in it leave
+pub curve-at-most : (m : MonthFile) (t : ℕ) → curveVerdict m t ≡ accepted → curve m t ≤ greatestCurveNumber
+unfolding curveVerdict
+curve-at-most m t e = leb-true (curve m t) greatestCurveNumber (unless-exactly _ _ _ .0 e)
 
+pub periodised-at-most : (m : MonthFile) (t : ℕ) → periodisedVerdict m t ≡ accepted → allPeriodised m t ≤ greatestPeriodised
+unfolding periodisedVerdict
+periodised-at-most m t e = leb-true (allPeriodised m t) greatestPeriodised (unless-exactly _ _ _ .0 e)
+
+-- A month whose file is whole and whose W and hours are in order: the checks up to the refixed hours.
+pub record Judged (m : MonthFile) : Type 0 where
+  pub whole : Whole m
+  pub W-right : unless (within 1 greatestW (monthW m)) wOutOfRange 0 ≡ accepted
+  pub fixed-right : inTurn (H m) (hourVerdict (m .fixed)) ≡ accepted
+  pub refixed-right : inTurn (length (m .refixed)) (hourVerdict (m .refixed)) ≡ accepted
+
+module _ (m : MonthFile) (j : Judged m) where
   pub W-in-range : (1 ≤ monthW m) × (monthW m ≤ greatestW)
-  unfolding monthChecks
-  W-in-range = within-is 1 greatestW (monthW m) (unless-exactly _ _ _ .0 (none .0))
+  W-in-range = within-is 1 greatestW (monthW m) (unless-exactly _ _ _ .0 (j .W-right))
 
   -- EVERY FIXED HOUR HAS ITS FIGURE
   pub fixed-hours-have : (t : ℕ) → t < H m → HasFigure (flowsAt (m .fixed) t)
-  unfolding monthChecks
-  fixed-hours-have t b = judged-to-have (flowsAt (m .fixed) t) t (in-turn-exactly (H m) _ .0 (none .1 .0) t b)
+  unfolding hourVerdict
+  fixed-hours-have t b = judged-to-have (flowsAt (m .fixed) t) t (in-turn-exactly (H m) (hourVerdict (m .fixed)) .0 (j .fixed-right) t b)
 
   refixed-hours-have : (t : ℕ) → t < length (m .refixed) → HasFigure (flowsAt (m .refixed) t)
-  unfolding monthChecks
-  refixed-hours-have t b = judged-to-have (flowsAt (m .refixed) t) t (in-turn-exactly (length (m .refixed)) _ .0 (none .1 .1 .0) t b)
+  unfolding hourVerdict
+  refixed-hours-have t b = judged-to-have (flowsAt (m .refixed) t) t (in-turn-exactly (length (m .refixed)) (hourVerdict (m .refixed)) .0 (j .refixed-right) t b)
 
   -- AND SO HAS EVERY APPLIED HOUR
   pub every-hour-has-its-figure : (t : ℕ) → t < H m → HasFigure (appliedFlows m t)
@@ -78,22 +88,14 @@ module _ (m : MonthFile) (whole : Whole m) (ok : monthVerdict m ≡ accepted) wh
       go [] e = fixed-hours-have t b
       go (f ∷ fs) e =
           let some : 0 < length (m .refixed) = rw e (omega arith) in
-          let all : length (m .refixed) ≡ H m = ⊎-elim (λ (z : length (m .refixed) ≡ 0). absurd (omega arith)) (λ (h : length (m .refixed) ≡ H m). h) (whole .none-or-all-refixed) in
+          let all : length (m .refixed) ≡ H m = ⊎-elim (λ (z : length (m .refixed) ≡ 0). absurd (omega arith)) (λ (h : length (m .refixed) ≡ H m). h) (j .whole .none-or-all-refixed) in
           subst (λ (s : List Flows). HasFigure (flowsAt s t)) e (refixed-hours-have t (omega arith))
 
   pub applied-in-range : (t : ℕ) → t < H m → appliedWh m t ≤ greatestResidual
   unfolding appliedWh
   applied-in-range t b = every-hour-has-its-figure t b .at-most
 
-  pub curve-in-range : (t : ℕ) → t < H m → curve m t ≤ greatestCurveNumber
-  unfolding monthChecks
-  curve-in-range t b = leb-true (curve m t) greatestCurveNumber (unless-exactly _ _ _ .0 (in-turn-exactly (H m) _ .0 (none .1 .1 .1 .0) t b))
-
-  pub periodised-in-range : (t : ℕ) → t < H m → allPeriodised m t ≤ greatestPeriodised
-  unfolding monthChecks
-  periodised-in-range t b = leb-true (allPeriodised m t) greatestPeriodised (unless-exactly _ _ _ .0 (in-turn-exactly (H m) _ .0 (none .1 .1 .1 .1 .1 .0) t b))
-
-  some-share : 0 < W (P m) (shareOf m)
+  pub some-share : 0 < W (P m) (shareOf m)
   unfolding monthW
   some-share = W-in-range .0
 
@@ -101,8 +103,8 @@ module _ (m : MonthFile) (whole : Whole m) (ok : monthVerdict m ≡ accepted) wh
   pub demand-3-of-the-month : Demand3 (P m) (shareOf m) (appliedWh m)
   demand-3-of-the-month = demand-3 (P m) (shareOf m) some-share (appliedWh m)
 
-  heading-right : HeadingFacts (m .heading)
-  heading-right = heading-facts (m .heading) (whole .head)
+  pub heading-right : HeadingFacts (m .heading)
+  heading-right = heading-facts (m .heading) (j .whole .head)
 
   -- THE DIFFERENCES OF EACH HOUR ADD UP TO 0, and so do the amounts
   pub hour-differences-add-up : (t : ℕ) → sumℤ (P m) (difference m t) ≡ pos 0
@@ -133,14 +135,14 @@ module _ (m : MonthFile) (whole : Whole m) (ok : monthVerdict m ≡ accepted) wh
 
   -- A DIFFERENCE LIES WITHIN 2,000,000,001 WH of either sign. With the running sum a after and b before the hour, the residual r and all periodised s:
   -- the carrier's is p + (r - s) - (a - b), another's p - (a - b).
-  module _ (t i : ℕ) (in-month : t < H m) (is-party : i < P m) where
+  module _ (t i : ℕ) (in-month : t < H m) (is-party : i < P m) (in-limit : allPeriodised m t ≤ greatestPeriodised) where
     abbrev after-hour : ℕ
     after-hour = runningAfter (P m) (shareOf m) (appliedWh m) (suc t) i
 
     abbrev before-hour : ℕ
     before-hour = runningAfter (P m) (shareOf m) (appliedWh m) t i
 
-    growth-bounds : (before-hour ≤ after-hour + 1) × (after-hour ≤ before-hour + appliedWh m t + 1)
+    pub growth-bounds : (before-hour ≤ after-hour + 1) × (after-hour ≤ before-hour + appliedWh m t + 1)
     growth-bounds = growth-in-range (P m) (shareOf m) some-share (appliedWh m) t i is-party
 
     own-at-most-all : periodised m t i ≤ allPeriodised m t
@@ -170,31 +172,51 @@ module _ (m : MonthFile) (whole : Whole m) (ok : monthVerdict m ≡ accepted) wh
         (le-of-suc-le-suc
         (minus-near (periodised m t i + appliedWh m t + before-hour) (allPeriodised m t + after-hour) 2000000002
         (omega (arith, growth-bounds, own-at-most-all, applied-in-range t in-month))
-        (omega (arith, growth-bounds, periodised-in-range t in-month))))
+        (omega (arith, growth-bounds, in-limit))))
     difference-by false =
         rw anothers
         (le-of-suc-le-suc
         (minus-near (periodised m t i + before-hour) after-hour 2000000002
-        (omega (arith, growth-bounds, own-at-most-all, periodised-in-range t in-month))
+        (omega (arith, growth-bounds, own-at-most-all, in-limit))
         (omega (arith, growth-bounds, applied-in-range t in-month))))
 
     pub difference-fits : natAbs (difference m t i) ≤ 2000000001
     unfolding difference differenceOf loss gridLoss lossOf distributed distributedFigure allPeriodised
     difference-fits = difference-by (eqb i (m .heading .carrier))
 
-    price-fits : natAbs (priceAt m t) ≤ greatestPrice
+    pub price-fits : natAbs (priceAt m t) ≤ greatestPrice
     unfolding priceAt H
     price-fits =
         within-size greatestPrice (priceAt m t)
-        (every-at PriceRight (m .prices) (whole .prices) t (pos 0) (omega (arith, whole .all-prices)))
+        (every-at PriceRight (m .prices) (j .whole .prices) t (pos 0) (omega (arith, j .whole .all-prices)))
 
     pub amount-fits : natAbs (amount m t i) ≤ 2000000001 * 5000000
     unfolding amount amountMillionths
     amount-fits = rw (size-of-product (difference m t i) (priceAt m t)) (mul-le-mul difference-fits price-fits)
 
-  -- A MONTH'S AMOUNT FITS 64 BITS: below 745 x 2,000,000,001 x 5,000,000 = 7.45 x 10^18
+-- AN ACCEPTED MONTH: no check of it refuses
+module _ (m : MonthFile) (whole : Whole m) (ok : monthVerdict m ≡ accepted) where
+  none : NoneRefuses (monthChecks m)
+  unfolding monthVerdict
+  none = accepted-exactly (monthChecks m) .0 ok
+
+  pub accepted-is-judged : Judged m
+  unfolding monthChecks
+  accepted-is-judged = record { whole = whole; W-right = none .0; fixed-right = none .1 .0; refixed-right = none .1 .1 .0 }
+
+  pub curve-in-range : (t : ℕ) → t < H m → curve m t ≤ greatestCurveNumber
+  unfolding monthChecks
+  curve-in-range t b = curve-at-most m t (in-turn-exactly (H m) (curveVerdict m) .0 (none .1 .1 .1 .0) t b)
+
+  pub periodised-in-range : (t : ℕ) → t < H m → allPeriodised m t ≤ greatestPeriodised
+  unfolding monthChecks
+  periodised-in-range t b = periodised-at-most m t (in-turn-exactly (H m) (periodisedVerdict m) .0 (none .1 .1 .1 .1 .1 .0) t b)
+
+  -- ITS AMOUNTS FIT 64 BITS: below 745 x 2,000,000,001 x 5,000,000 = 7.45 x 10^18
   pub month-amount-fits : (i : ℕ) → i < P m → natAbs (monthAmount m i) ≤ 745 * (2000000001 * 5000000)
   unfolding monthAmount H
   month-amount-fits i b =
-      le-trans (size-of-sums (H m) (λ t. amount m t i) (2000000001 * 5000000) (λ t c. amount-fits t i c b))
-      (mul-le-mul-right (2000000001 * 5000000) (heading-right .hours .1))
+      le-trans
+      (size-of-sums (H m) (λ t. amount m t i) (2000000001 * 5000000)
+      (λ t c. amount-fits m accepted-is-judged t i c b (periodised-in-range t c)))
+      (mul-le-mul-right (2000000001 * 5000000) (heading-right m accepted-is-judged .hours .1))

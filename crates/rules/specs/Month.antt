@@ -8,11 +8,11 @@ use lib.ListN.{length, getD}
 use Rattle.rules.specs.Distributed.{distributedFigure}
 use Rattle.rules.specs.Flows.{Flows, W, residualWh, curveNumber, appliedSeries, judged, verdictOf}
 use Rattle.rules.specs.Limits.{greatestW, greatestCurveNumber, greatestPeriodised, missing, estimated}
-use Rattle.rules.specs.MonthFile.{MonthFile, H, P}
+use Rattle.rules.specs.MonthFile.{MonthFile, H, P, nothingYet, readMonth}
 use Rattle.rules.specs.Periodised.{periodisedFigure}
 use Rattle.rules.specs.Reconciliation.{gridLoss, lossOf, differenceOf, amountMillionths, invoiceOre}
 use Rattle.rules.specs.Record.{Party, Reading}
-use Rattle.rules.specs.Refusals.{wOutOfRange, curveTooLarge, nothingToFollow, periodisedTooLarge, Verdict, unless, first, inTurn}
+use Rattle.rules.specs.Refusals.{wOutOfRange, curveTooLarge, nothingToFollow, periodisedTooLarge, wrongLength, Verdict, refused, Answer, given, refusal, unless, andThen, first, inTurn}
 use Rattle.rules.specs.Words.{sum, sumℤ, count, within}
 
 -- What stands at a place of a list. Past a list's end nothing is asked; what is written for it there is an empty record.
@@ -64,10 +64,13 @@ unfoldable pub readingFigure : MonthFile → Reading → ℕ → ℕ
 readingFigure m r t =
     cond (leb (r .a) t && ltb t (r .b)) (periodisedFigure (r .e) (r .b - r .a) (weightOf m r) (t - r .a)) 0
 
+-- what reading j gives party i in hour t: its figure, if it is the party's
+unfoldable pub figureFor : MonthFile → ℕ → ℕ → ℕ → ℕ
+figureFor m t i j = cond (eqb (readingAt m j .party) i) (readingFigure m (readingAt m j) t) 0
+
 -- a party's periodised consumption in hour t: that of its readings
 unfoldable pub periodised : MonthFile → ℕ → ℕ → ℕ
-periodised m t i =
-    sum (length (m .readings)) (λ j. cond (eqb (readingAt m j .party) i) (readingFigure m (readingAt m j) t) 0)
+periodised m t i = sum (length (m .readings)) (figureFor m t i)
 
 -- "All periodised consumption in an hour"
 unfoldable pub allPeriodised : MonthFile → ℕ → ℕ
@@ -102,21 +105,59 @@ unfoldable pub invoice : MonthFile → ℕ → ℤ
 invoice m i = invoiceOre (monthAmount m i)
 
 -- "the number of applied hours with status 2"
+unfoldable pub isEstimated : List Flows → ℕ → Bool
+isEstimated series t = eqb (flowsAt series t .status) estimated
+
 unfoldable pub estimatedHours : MonthFile → ℕ
-estimatedHours m = count (H m) (λ t. eqb (appliedFlows m t .status) estimated)
+estimatedHours m = count (H m) (isEstimated (appliedSeries (m .fixed) (m .refixed)))
+
+-- "the fixed hours in order, each 7, 8, 9; the refixed hours likewise": an hour of a series
+unfoldable pub hourVerdict : List Flows → ℕ → Verdict
+hourVerdict series t = verdictOf (judged (flowsAt series t)) t
+
+-- "10 by hour"
+unfoldable pub curveVerdict : MonthFile → ℕ → Verdict
+curveVerdict m t = unless (leb (curve m t) greatestCurveNumber) curveTooLarge t
+
+-- "13 by reading"
+unfoldable pub readingVerdict : MonthFile → ℕ → Verdict
+readingVerdict m j = unless (eqb (readingAt m j .e) 0 || leb 1 (S m (readingAt m j))) nothingToFollow j
+
+-- "14 by hour"
+unfoldable pub periodisedVerdict : MonthFile → ℕ → Verdict
+periodisedVerdict m t = unless (leb (allPeriodised m t) greatestPeriodised) periodisedTooLarge t
 
 -- THE ORDER OF REFUSALS AFTER THE FILE IS READ. "Then 6; then the fixed hours in order, each 7, 8, 9; the refixed hours likewise;
 -- 10 by hour; 13 by reading; 14 by hour".
 unfoldable pub monthChecks : MonthFile → List Verdict
 monthChecks m =
     unless (within 1 greatestW (monthW m)) wOutOfRange 0
-    ∷ inTurn (H m) (λ t. verdictOf (judged (flowsAt (m .fixed) t)) t)
-    ∷ inTurn (length (m .refixed)) (λ t. verdictOf (judged (flowsAt (m .refixed) t)) t)
-    ∷ inTurn (H m) (λ t. unless (leb (curve m t) greatestCurveNumber) curveTooLarge t)
-    ∷ inTurn (length (m .readings))
-    (λ j. unless (eqb (readingAt m j .e) 0 || leb 1 (S m (readingAt m j))) nothingToFollow j)
-    ∷ inTurn (H m) (λ t. unless (leb (allPeriodised m t) greatestPeriodised) periodisedTooLarge t)
+    ∷ inTurn (H m) (hourVerdict (m .fixed))
+    ∷ inTurn (length (m .refixed)) (hourVerdict (m .refixed))
+    ∷ inTurn (H m) (curveVerdict m)
+    ∷ inTurn (length (m .readings)) (readingVerdict m)
+    ∷ inTurn (H m) (periodisedVerdict m)
     ∷ []
 
 unfoldable pub monthVerdict : MonthFile → Verdict
 monthVerdict m = first (monthChecks m)
+
+-- A CALL ON A WHOLE FILE: the refusals of reading it, then those of the month.
+unfoldable pub verdictOn : Answer MonthFile → Verdict
+verdictOn (given m) = monthVerdict m
+verdictOn (refusal r place) = refused r place
+
+unfoldable pub fileVerdict : List ℕ → Verdict
+fileVerdict file = verdictOn (readMonth file)
+
+-- "last, for a call on a whole month, 16"
+unfoldable pub callVerdict : List ℕ → Bool → Verdict
+callVerdict file lentRight = andThen (fileVerdict file) (unless lentRight wrongLength 0)
+
+-- the month that a file is read as. Of a file that is refused nothing is asked; what is written for it there is an empty month.
+unfoldable pub monthRead : Answer MonthFile → MonthFile
+monthRead (given m) = m
+monthRead (refusal r place) = nothingYet
+
+unfoldable pub monthOf : List ℕ → MonthFile
+monthOf file = monthRead (readMonth file)
