@@ -1,0 +1,73 @@
+-- What an accepted file's sections say of the month that the file is read as: for the crates above, which know the file and its sections alone.
+use mathlib.Core.List.{List}
+use mathlib.Core.Path.{_≡_, refl, sym, _∙_, ap}
+use Prim.Native.Nat.{ℕ}
+use lib.IntN.{ℤ}
+use lib.ListN.{length}
+use Rattle.record.specs.Record.{flowsOf, readingOf}
+use Rattle.record.specs.declared.Flows as CFlows
+use Rattle.record.specs.declared.Reading as CReading
+use Rattle.month_file.specs.declared.Sections.{Sections}
+use Rattle.month_file.specs.Fields.{Accepted, FixedIs, RefixedIs, PriceIs, ReadingIs, ShareIs, GlnIs}
+use Rattle.month_file.specs.Walk.{readAnswer, sectionsOf}
+use Rattle.month_file.proofs.Readers.{its-month}
+use Rattle.rules.specs.Month.{monthRead, monthOf, flowsAt, partyAt, priceAt, readingAt, shareOf}
+use Rattle.rules.specs.MonthFile.{MonthFile, H, P, readMonth}
+use Rattle.rules.specs.Refusals.{Answer, given}
+use Rattle.rules.proofs.Whole.{Whole, what-is-read-is-whole}
+
+pub month-of : {file : List ℕ} {m : MonthFile} → readMonth file ≡ given m → monthOf file ≡ m
+unfolding monthOf monthRead
+month-of e = ap monthRead e
+
+module _ (file : List ℕ) (s : Sections) (ok : Accepted file s) where
+  -- the file is read as its month
+  pub read-as : readMonth file ≡ given (monthOf file)
+  read-as = let m = its-month file s ok in m .1 ∙ ap given (sym (month-of (m .1)))
+
+  -- which is whole
+  pub month-whole : Whole (monthOf file)
+  month-whole = what-is-read-is-whole file read-as
+
+  pub sections-are : s ≡ sectionsOf (monthOf file)
+  sections-are = let same : given (sectionsOf (monthOf file)) ≡ given s = ap readAnswer (sym read-as) ∙ ok .is in cc
+
+  -- how many of each kind
+  pub hours-are : s .heading .hours ≡ H (monthOf file)
+  unfolding sectionsOf H
+  hours-are = ap (λ (x : Sections). x .heading .hours) sections-are
+
+  pub parties-are : s .heading .parties ≡ P (monthOf file)
+  unfolding sectionsOf P
+  parties-are = ap (λ (x : Sections). x .heading .parties) sections-are
+
+  pub carrier-is : s .heading .carrier ≡ monthOf file .heading .carrier
+  unfolding sectionsOf
+  carrier-is = ap (λ (x : Sections). x .heading .carrier) sections-are
+
+  pub refixed-are : s .refixed ≡ length (monthOf file .refixed)
+  unfolding sectionsOf
+  refixed-are = ap (λ (x : Sections). x .refixed) sections-are
+
+  pub readings-are : s .readings ≡ length (monthOf file .readings)
+  unfolding sectionsOf
+  readings-are = ap (λ (x : Sections). x .readings) sections-are
+
+  -- what the readers of its fields give
+  pub fixed-read : {t : ℕ} {f : CFlows.Flows} → FixedIs file t f → flowsOf f ≡ flowsAt (monthOf file .fixed) t
+  fixed-read p = p .is (monthOf file) read-as
+
+  pub refixed-read : {t : ℕ} {f : CFlows.Flows} → RefixedIs file t f → flowsOf f ≡ flowsAt (monthOf file .refixed) t
+  refixed-read p = p .is (monthOf file) read-as
+
+  pub price-read : {t : ℕ} {z : ℤ} → PriceIs file t z → z ≡ priceAt (monthOf file) t
+  price-read p = p .is (monthOf file) read-as
+
+  pub reading-read : {j : ℕ} {x : CReading.Reading} → ReadingIs file j x → readingOf x ≡ readingAt (monthOf file) j
+  reading-read p = p .is (monthOf file) read-as
+
+  pub share-read : {i n : ℕ} → ShareIs file i n → n ≡ shareOf (monthOf file) i
+  share-read p = p .is (monthOf file) read-as
+
+  pub gln-read : {i : ℕ} {gln : List ℕ} → GlnIs file i gln → gln ≡ partyAt (monthOf file) i .gln
+  gln-read p = p .is (monthOf file) read-as
