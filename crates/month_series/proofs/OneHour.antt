@@ -1,14 +1,14 @@
 -- One hour of a file's series: flows within their ranges give a residual, and what the code decides of it is what the rules judge.
 use mathlib.Core.Bool.{Bool, true, false, cond, _&&_}
-use mathlib.Core.Path.{_≡_, refl, sym, _∙_, ap}
-use Prim.Native.Nat.{ℕ, zero, suc, _≤_}
+use mathlib.Core.Path.{_≡_, _∙_}
+use Prim.Native.Nat.{ℕ, zero, suc}
 use native.Mathlib.Omega.{arith}
 use borrow.Author.Tests.{leb-true}
 use lib.Dec.{leb}
 use lib.IntN.{ℤ, pos, negsuc, natAbs}
 use Rattle.residual.specs.Hour.{judgement, flowsHere, WithinLimits}
 use Rattle.residual.specs.declared.Hour.{Hour}
-use Rattle.rules.specs.Flows.{Flows, Judgement, figure, noFigure, residual, flowsInRange, judged, judgedBy, residualWh}
+use Rattle.rules.specs.Flows.{Flows, figure, noFigure, residual, flowsInRange, judged, judgedBy, residualWh}
 use Rattle.rules.specs.Limits.{estimated, greatestFlow, greatestResidual}
 use Rattle.rules.specs.Refusals.{Refusal, residualTooLarge}
 use Rattle.rules.specs.Words.{withinℤ}
@@ -23,10 +23,10 @@ flows-within f e =
     let t0 = both-pass (leb (f .status) estimated) (withinℤ greatestFlow (f .net)) (t1 .0) in
     record { net-within = within-size greatestFlow (f .net) (t0 .1); production-within = leb-true (f .production) greatestFlow (t1 .1); hourly-within = leb-true (f .hourly) greatestFlow (t2 .1); flex-within = leb-true (f .flex) greatestFlow (t3 .1) }
 
--- the machine's number z is the residual, which the status has no part in
-pub judged-is : (f : Flows) (hour : Hour) {wh z : ℤ} → wh ≡ residual (flowsHere 0 (f .net) (f .production) (f .hourly) (f .flex)) → z ≡ wh → judgement hour ≡ judgedBy (f .status) z → judgement hour ≡ judged f
+-- the machine's numbers are the net supply and the residual, which the status has no part in
+pub judged-is : (f : Flows) (hour : Hour) {net wh z : ℤ} → net ≡ f .net → wh ≡ residual (flowsHere 0 net (f .production) (f .hourly) (f .flex)) → z ≡ wh → judgement hour ≡ judgedBy (f .status) z → judgement hour ≡ judged f
 unfolding judged residual
-judged-is f hour r e j = j ∙ ap (judgedBy (f .status)) (e ∙ r)
+judged-is f hour n r e j = j ∙ rw (e, r, n)
 
 -- a figure that an hour is judged to have is its residual
 no-figure : {r : Refusal} {n : ℕ} → figure n ≡ noFigure r → ⊥

@@ -32,18 +32,15 @@ module _ (file : List ℕ) (s : Sections) (ok : Accepted file s) (j : ℕ) (b : 
     many : length lent ≡ suc (H (monthOf file))
     many = ap length written ∙ figures-length _ _
 
-    pub start-stands : x .a < length lent
-    start-stands = omega (arith, many, right)
-
-    pub end-stands : x .b < length lent
-    end-stands = omega (arith, many, right)
+    pub ends-stand : (x .a < length lent) × (x .b < length lent)
+    ends-stand = (omega (arith, many, right), omega (arith, many, right))
 
     stands : {t : ℕ} → t < length lent → getD lent t 0 ≡ beginning (curve (monthOf file)) t
     stands {t} c = ap (λ (l : List ℕ). getD l t 0) written ∙ figures-at _ _ t 0 (omega (arith, many))
 
     pub end-not-less : getD lent (x .a) 0 ≤ getD lent (x .b) 0
-    end-not-less = rw (stands start-stands, stands end-stands) (beginning-rises _ (omega (arith, right)))
+    end-not-less = rw (stands (ends-stand .0), stands (ends-stand .1)) (beginning-rises _ (omega (arith, right)))
 
     -- what the code's test says is the test of the reading's check
     pub follows-is : {passed : Bool} → passed ≡ followsBy (x .«e_wh») (getD lent (x .a) 0) (getD lent (x .b) 0) → passed ≡ (eqb (readingAt (monthOf file) j .e) 0 || leb 1 (S (monthOf file) (readingAt (monthOf file) j)))
-    follows-is e = e ∙ rw (stands start-stands, stands end-stands, ← same, S-by-beginnings (monthOf file) (readingOf x) (omega (arith, right)))
+    follows-is e = e ∙ rw (stands (ends-stand .0), stands (ends-stand .1), ← same, S-by-beginnings (monthOf file) (readingOf x) (omega (arith, right)))

@@ -3,7 +3,7 @@
 use mathlib.Core.Bool.{Bool, true, false, cond}
 use mathlib.Core.List.{List}
 use mathlib.Core.Path.{_≡_, refl, sym, _∙_, ap}
-use Prim.Native.Nat.{ℕ, zero, suc, _+_, _≤_, _<_}
+use Prim.Native.Nat.{ℕ, _+_, _≤_, _<_}
 use native.Mathlib.Numerals.{add-one}
 use native.Mathlib.Omega.{arith}
 use lib.Dec.{eqb}
@@ -22,7 +22,6 @@ use Rattle.residual.specs.Hour.{judgement}
 use Rattle.residual.specs.declared.Hour.{Hour}
 use Rattle.rules.specs.Flows.{Flows, Judgement, figure, noFigure, flowsInRange, judged, verdictOf}
 use Rattle.rules.specs.Month.{monthOf, flowsAt, hourVerdict, isEstimated}
-use Rattle.rules.specs.Refusals.{accepted}
 use Rattle.rules.specs.Words.{sum, count}
 use Rattle.rules.proofs.Loops.{Looking, look-start, look-pass, look-stop, look-end, Filling, fill-start, fill-next, fill-end}
 use Rattle.rules.proofs.Refusals.{refused-not-accepted}

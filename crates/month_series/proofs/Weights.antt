@@ -1,8 +1,8 @@
 -- "S is their sum" (01 "Periodised consumption"): the weights of a reading a..b add up to what the curve adds up to before b less what it adds up to before a.
 -- And the loop that adds them up: its sums so far stand in the lent list, and none leaves 64 bits.
 use mathlib.Core.List.{List}
-use mathlib.Core.Path.{_≡_, refl, sym, _∙_, ap}
-use Prim.Native.Nat.{ℕ, zero, suc, _+_, _-_, _*_, _≤_, _<_}
+use mathlib.Core.Path.{_≡_, refl, _∙_, ap}
+use Prim.Native.Nat.{ℕ, suc, _+_, _-_, _*_, _≤_, _<_}
 use native.Mathlib.Numerals.{add-one}
 use native.Mathlib.Omega.{arith}
 use lib.ListN.{length, set}

@@ -47,7 +47,7 @@ pub record HourAsked (file : List ℕ) (s : Sections) (refixed : Bool) (t : ℕ)
 abbrev pub estimatedOne : ℕ → ℕ
 estimatedOne status = cond (eqb status Limits.estimated) 1 0
 
--- 13, "E positive and S zero": whether a reading has nothing to fear of it, S by the beginnings at its ends
+-- 13, "E positive and S zero", does not apply to a reading: E is 0, or S, what lies between the beginnings at its two ends, is not
 abbrev pub followsBy : ℕ → ℕ → ℕ → Bool
 followsBy e start end = eqb e 0 || leb 1 (end - start)
 

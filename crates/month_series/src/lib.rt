@@ -67,11 +67,7 @@ fn judge_flows(f: Flows) -> Hour
 fn estimated_one(status: u8) -> usize
     ensures { λ n. ⌜ n ≡ estimatedOne status ⌝ }
 {
-    if status == ESTIMATED {
-        1
-    } else {
-        0
-    }
+    if status == ESTIMATED { 1 } else { 0 }
 }
 
 // "then the fixed hours in order, each 7, 8, 9; the refixed hours likewise": the residual of every hour of either series, or the first hour that has none.

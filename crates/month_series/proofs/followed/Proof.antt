@@ -3,7 +3,7 @@ use Rattle.month_file.proofs.AcceptedFile.{readings-are}
 use Prim.Native.Nat.{_-_}
 use mathlib.Core.Path.{sym}
 use lib.ListN.{length}
-use Rattle.month_series.proofs.OneReading.{start-stands, end-stands, end-not-less, follows-is}
+use Rattle.month_series.proofs.OneReading.{ends-stand, end-not-less, follows-is}
 use Rattle.residual.proofs.Places.{passes, stops}
 use Rattle.rules.specs.Month.{monthOf, readingVerdict}
 use Rattle.rules.proofs.Loops.{Looking, look-start, look-pass, look-stop, look-end}
@@ -34,16 +34,16 @@ mul-follows : tie.Need-mul-follows Inv-loop μ-loop
 mul-follows c = search needs
 
 shared-slice-read-follows : tie.Need-shared-slice-read-follows Inv-loop μ-loop
-shared-slice-read-follows c = start-stands _ _ (c .before .before .before .before .before .before .before .before .pre .0) _ (omega arith) (c .before .before .before .reading .ensures) (c .before .before .before .before .before .before .before .before .pre .1)
+shared-slice-read-follows c = omega (arith, ends-stand _ _ (c .before .before .before .before .before .before .before .before .pre .0) _ (omega arith) (c .before .before .before .reading .ensures) (c .before .before .before .before .before .before .before .before .pre .1))
 
 mul-follows-2 : tie.Need-mul-follows-2 Inv-loop μ-loop
 mul-follows-2 c = search needs
 
 shared-slice-read-follows-2 : tie.Need-shared-slice-read-follows-2 Inv-loop μ-loop
-shared-slice-read-follows-2 c = end-stands _ _ (c .before .before .before .before .before .before .before .before .before .pre .0) _ (omega arith) (c .before .before .before .before .reading .ensures) (c .before .before .before .before .before .before .before .before .before .pre .1)
+shared-slice-read-follows-2 c = omega (arith, ends-stand _ _ (c .before .before .before .before .before .before .before .before .before .pre .0) _ (omega arith) (c .before .before .before .before .reading .ensures) (c .before .before .before .before .before .before .before .before .before .pre .1))
 
 follows-requires : tie.Need-follows-requires Inv-loop μ-loop
-follows-requires c κs = end-not-less _ _ (c .before .before .before .before .before .before .before .before .before .pre .0) _ (omega arith) (c .before .before .before .before .reading .ensures) (c .before .before .before .before .before .before .before .before .before .pre .1)
+follows-requires c κs = omega (arith, end-not-less _ _ (c .before .before .before .before .before .before .before .before .before .pre .0) _ (omega arith) (c .before .before .before .before .reading .ensures) (c .before .before .before .before .before .before .before .before .before .pre .1))
 
 returns : tie.Need-returns Inv-loop μ-loop
 unfolding readingVerdict

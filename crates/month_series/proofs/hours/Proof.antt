@@ -40,7 +40,7 @@ estimated-one-requires : tie.Need-estimated-one-requires Inv-loop μ-loop
 estimated-one-requires c κs = search needs
 
 add-estimated : tie.Need-add-estimated Inv-loop μ-loop
-add-estimated c = omega (arith, c .estimated-one .ensures, one-at-most _, c .before .before .before .before .before .before .before .loop .inv .few, c .before .before .before .before .before .before .before .loop .inv .filling .size, hours-many _ _ (c .before .before .before .before .before .before .before .before .before .before .pre .0) (c .before .before .before .before .before .before .before .before .before .before .args .refixed), c .before .before .before .before .before .before .before .before .before .before .pre .1)
+add-estimated c = omega (arith, c .estimated-one .ensures, one-at-most (c .before .before .before .before .before .flows-at .result .status), c .before .before .before .before .before .before .before .loop .inv .few, c .before .before .before .before .before .before .before .loop .inv .filling .size, hours-many _ _ (c .before .before .before .before .before .before .before .before .before .before .pre .0) (c .before .before .before .before .before .before .before .before .before .before .args .refixed), c .before .before .before .before .before .before .before .before .before .before .pre .1)
 
 add-t : tie.Need-add-t Inv-loop μ-loop
 add-t c = omega (arith, c .before .before .before .before .before .before .before .loop .inv .filling .size, hours-many _ _ (c .before .before .before .before .before .before .before .before .before .before .pre .0) (c .before .before .before .before .before .before .before .before .before .before .args .refixed), c .before .before .before .before .before .before .before .before .before .before .pre .1)
