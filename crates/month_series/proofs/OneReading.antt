@@ -14,9 +14,13 @@ use Rattle.month_series.proofs.Weights.{beginning-rises, S-by-beginning
 use Rattle.record.specs.Record.{readingOf}
 use Rattle.record.specs.declared.Reading as CReading
 use Rattle.rules.specs.Month.{monthOf, curve, readingAt, S}
-use Rattle.rules.specs.MonthFile.{H, P}
+use Rattle.rules.specs.MonthFile.{MonthFile, H, P}
 use Rattle.rules.proofs.Loops.{figures-length, figures-at}
 use Rattle.rules.proofs.Whole.{every-at, ReadingRight}
+
+-- the test of the rules' check of reading j
+abbrev pub followsIn : MonthFile → ℕ → Bool
+followsIn m j = eqb (readingAt m j .e) 0 || leb 1 (S m (readingAt m j))
 
 module _ (file : List ℕ) (s : Sections) (ok : Accepted file s) (j : ℕ) (b : j < s .readings) {x : CReading.Reading} (is : ReadingIs file j x) where
   same : readingOf x ≡ readingAt (monthOf file) j
@@ -42,5 +46,5 @@ module _ (file : List ℕ) (s : Sections) (ok : Accepted file s) (j : ℕ) (b : 
     end-not-less = rw (stands (ends-stand .0), stands (ends-stand .1)) (beginning-rises _ (omega (arith, right)))
 
     -- what the code's test says is the test of the reading's check
-    pub follows-is : {passed : Bool} → passed ≡ followsBy (x .«e_wh») (getD lent (x .a) 0) (getD lent (x .b) 0) → passed ≡ (eqb (readingAt (monthOf file) j .e) 0 || leb 1 (S (monthOf file) (readingAt (monthOf file) j)))
+    pub follows-is : {passed : Bool} → passed ≡ followsBy (x .«e_wh») (getD lent (x .a) 0) (getD lent (x .b) 0) → passed ≡ followsIn (monthOf file) j
     follows-is e = e ∙ rw (stands (ends-stand .0), stands (ends-stand .1), ← same, S-by-beginnings (monthOf file) (readingOf x) (omega (arith, right)))

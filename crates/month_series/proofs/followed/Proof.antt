@@ -1,9 +1,9 @@
 -- `month_series::followed` meets its contract: what is left of the readings says what the whole says. Assumes nothing.
 use Rattle.month_file.proofs.AcceptedFile.{readings-are}
 use Prim.Native.Nat.{_-_}
-use mathlib.Core.Path.{sym}
+use mathlib.Core.Path.{_≡_, sym}
 use lib.ListN.{length}
-use Rattle.month_series.proofs.OneReading.{ends-stand, end-not-less, follows-is}
+use Rattle.month_series.proofs.OneReading.{followsIn, ends-stand, end-not-less, follows-is}
 use Rattle.residual.proofs.Places.{passes, stops}
 use Rattle.rules.specs.Month.{monthOf, readingVerdict}
 use Rattle.rules.proofs.Loops.{Looking, look-start, look-pass, look-stop, look-end}
@@ -45,9 +45,13 @@ shared-slice-read-follows-2 c = omega (arith, ends-stand _ _ (c .before .before 
 follows-requires : tie.Need-follows-requires Inv-loop μ-loop
 follows-requires c κs = omega (arith, end-not-less _ _ (c .before .before .before .before .before .before .before .before .before .pre .0) _ (omega arith) (c .before .before .before .before .reading .ensures) (c .before .before .before .before .before .before .before .before .before .pre .1))
 
+-- what the test says of the reading is the test of its check
+tested : (c : tie.After-follows Inv-loop μ-loop) → c .follows .result ≡ followsIn (monthOf (c .before .before .before .before .before .before .before .before .before .before .args .file .now)) (c .before .before .before .before .before .before .before .loop .j)
+tested c = follows-is _ _ (c .before .before .before .before .before .before .before .before .before .before .pre .0) _ (omega arith) (c .before .before .before .before .before .reading .ensures) (c .before .before .before .before .before .before .before .before .before .before .pre .1) (c .follows .ensures)
+
 returns : tie.Need-returns Inv-loop μ-loop
 unfolding readingVerdict
-returns c = sym (look-stop (c .before .before .before .before .before .before .before .before .loop .inv) (omega (arith, readings-are _ _ (c .before .before .before .before .before .before .before .before .before .before .before .pre .0))) (stops _ _ (follows-is _ _ (c .before .before .before .before .before .before .before .before .before .before .before .pre .0) _ (omega arith) (c .before .before .before .before .before .before .reading .ensures) (c .before .before .before .before .before .before .before .before .before .before .before .pre .1) (c .before .follows .ensures)) (c .if1 .taken)))
+returns c = sym (look-stop (c .before .before .before .before .before .before .before .before .loop .inv) (omega (arith, readings-are _ _ (c .before .before .before .before .before .before .before .before .before .before .before .pre .0))) (stops _ _ (tested (c .before)) (c .if1 .taken)))
 
 add-j : tie.Need-add-j Inv-loop μ-loop
 add-j c = search needs
@@ -57,7 +61,7 @@ loop-less c = omega (arith, readings-are _ _ (c .before .before .before .before 
 
 loop-again : tie.Need-loop-again Inv-loop μ-loop
 unfolding readingVerdict
-loop-again c = look-pass (c .before .before .before .before .before .before .before .before .loop .inv) (omega (arith, readings-are _ _ (c .before .before .before .before .before .before .before .before .before .before .before .pre .0))) (passes _ _ (follows-is _ _ (c .before .before .before .before .before .before .before .before .before .before .before .pre .0) _ (omega arith) (c .before .before .before .before .before .before .reading .ensures) (c .before .before .before .before .before .before .before .before .before .before .before .pre .1) (c .before .follows .ensures)) (c .if1 .left))
+loop-again c = look-pass (c .before .before .before .before .before .before .before .before .loop .inv) (omega (arith, readings-are _ _ (c .before .before .before .before .before .before .before .before .before .before .before .pre .0))) (passes _ _ (tested (c .before)) (c .if1 .left))
 
 returns-2 : tie.Need-returns-2 Inv-loop μ-loop
 returns-2 c = sym (look-end (c .before .loop .inv) (omega (arith, readings-are _ _ (c .before .before .before .before .pre .0))))
