@@ -1,5 +1,6 @@
 // The series of a month that a file is read as (01 "From flows to the curve" and "Refusal numbers"): its load shares, the fixed and refixed residuals with 7, 8
-// and 9, the curve's beginnings, and 13 by reading. Each goes through an accepted file by the readers of `month_file`, so each asks that the file is accepted.
+// and 9, the curve's beginnings, and 13 by reading. All but `beginnings` go through the file by the readers of `month_file`, so
+// they ask that it is accepted.
 use answer::Answer;
 use answer::Refusal;
 use month_file::Sections;
