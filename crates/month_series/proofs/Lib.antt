@@ -1,0 +1,4 @@
+pub mod Weights
+pub mod OneHour
+pub mod Series
+pub mod OneReading

@@ -1,0 +1,50 @@
+-- 13 of one reading of an accepted file, by two beginnings of the curve: both stand in the lent list, the second is not less, and they say what the rules say.
+use mathlib.Core.Bool.{Bool, _||_}
+use mathlib.Core.List.{List}
+use mathlib.Core.Path.{_≡_, sym, _∙_, ap, subst}
+use Prim.Native.Nat.{ℕ, suc, _≤_, _<_}
+use native.Mathlib.Omega.{arith}
+use lib.Dec.{eqb, leb}
+use lib.ListN.{length, getD}
+use Rattle.month_file.specs.Fields.{Accepted, ReadingIs}
+use Rattle.month_file.specs.declared.Sections.{Sections}
+use Rattle.month_file.proofs.AcceptedFile.{month-whole, readings-are, reading-read}
+use Rattle.month_series.specs.Series.{beginning, beginningsOf, followsBy}
+use Rattle.month_series.proofs.Weights.{beginning-rises, S-by-beginnings}
+use Rattle.record.specs.Record.{readingOf}
+use Rattle.record.specs.declared.Reading as CReading
+use Rattle.rules.specs.Month.{monthOf, curve, readingAt, S}
+use Rattle.rules.specs.MonthFile.{MonthFile, H, P}
+use Rattle.rules.proofs.Loops.{figures-length, figures-at}
+use Rattle.rules.proofs.Whole.{every-at, ReadingRight}
+
+-- the test of the rules' check of reading j
+abbrev pub followsIn : MonthFile → ℕ → Bool
+followsIn m j = eqb (readingAt m j .e) 0 || leb 1 (S m (readingAt m j))
+
+module _ (file : List ℕ) (s : Sections) (ok : Accepted file s) (j : ℕ) (b : j < s .readings) {x : CReading.Reading} (is : ReadingIs file j x) where
+  same : readingOf x ≡ readingAt (monthOf file) j
+  same = reading-read file s ok is
+
+  right : ReadingRight (H (monthOf file)) (P (monthOf file)) (readingOf x)
+  unfolding readingAt
+  right =
+      subst (ReadingRight (H (monthOf file)) (P (monthOf file))) (sym same)
+      (every-at (ReadingRight (H (monthOf file)) (P (monthOf file))) (monthOf file .readings) (month-whole file s ok .readings) j _ (omega (arith, readings-are file s ok)))
+
+  module _ {lent : List ℕ} (written : lent ≡ beginningsOf (monthOf file)) where
+    many : length lent ≡ suc (H (monthOf file))
+    many = ap length written ∙ figures-length _ _
+
+    pub ends-stand : (x .a < length lent) × (x .b < length lent)
+    ends-stand = (omega (arith, many, right), omega (arith, many, right))
+
+    stands : {t : ℕ} → t < length lent → getD lent t 0 ≡ beginning (curve (monthOf file)) t
+    stands {t} c = ap (λ (l : List ℕ). getD l t 0) written ∙ figures-at _ _ t 0 (omega (arith, many))
+
+    pub end-not-less : getD lent (x .a) 0 ≤ getD lent (x .b) 0
+    end-not-less = rw (stands (ends-stand .0), stands (ends-stand .1)) (beginning-rises _ (omega (arith, right)))
+
+    -- what the code's test says is the test of the reading's check
+    pub follows-is : {passed : Bool} → passed ≡ followsBy (x .«e_wh») (getD lent (x .a) 0) (getD lent (x .b) 0) → passed ≡ followsIn (monthOf file) j
+    follows-is e = e ∙ rw (stands (ends-stand .0), stands (ends-stand .1), ← same, S-by-beginnings (monthOf file) (readingOf x) (omega (arith, right)))
