@@ -1,3 +1,3 @@
 pub mod Parts
 pub mod Figures
-
+pub mod Adding

@@ -1,0 +1,65 @@
+use Rattle.month_readings.proofs.window.Statement.{statement}
+use Rattle.month_readings.proofs.window.Tie as tie
+use Rattle.month_readings.proofs.window.Reads as reads
+use Rattle.month_readings.proofs.window.Lts as lts
+use Rattle.month_file.proofs.reading.Reads as reading-reads
+use Rattle.month_readings.proofs.add_reading.Reads as add-reading-reads
+use Rattle.month_readings.proofs.clear.Reads as clear-reads
+
+abbrev Inv-loop : tie.InvT-loop
+Inv-loop file s curve beginnings start hours out₀ readings j₀ out j = ?
+
+abbrev μ-loop : tie.MeasureT-loop
+μ-loop file s curve beginnings start hours out₀ readings j₀ out j = ?
+
+-- src/lib.rt:75:5
+clear-requires : tie.Need-clear-requires Inv-loop μ-loop
+clear-requires c κs = ?
+
+-- src/lib.rt:78:5
+loop-holds : tie.Need-loop-holds Inv-loop μ-loop
+loop-holds c = ?
+
+-- src/lib.rt:79:13
+reading-requires : tie.Need-reading-requires Inv-loop μ-loop
+reading-requires c κs = ?
+
+-- src/lib.rt:80:9
+add-reading-requires : tie.Need-add-reading-requires Inv-loop μ-loop
+add-reading-requires c κs = ?
+
+-- src/lib.rt:81:9
+add-j : tie.Need-add-j Inv-loop μ-loop
+add-j c = ?
+
+-- src/lib.rt:78:5
+loop-less : tie.Need-loop-less Inv-loop μ-loop
+loop-less c = ?
+
+-- src/lib.rt:78:5
+loop-again : tie.Need-loop-again Inv-loop μ-loop
+loop-again c = ?
+
+-- src/lib.rt:71:1
+same-length : tie.Need-same-length Inv-loop μ-loop
+same-length c = ?
+
+-- src/lib.rt:71:1
+returns : tie.Need-returns Inv-loop μ-loop
+returns c = ?
+
+pub window-spec : {M : Type 1} → statement M
+window-spec =
+    tie.close
+    (tie.spec
+    Inv-loop
+    μ-loop
+    clear-requires
+    loop-holds
+    reading-requires
+    add-reading-requires
+    add-j
+    loop-less
+    loop-again
+    same-length
+    returns)
