@@ -1,6 +1,7 @@
 -- A reading's figures in a part of its hours: the growths of the part, with the weight before it out of the weight of all, are the reading's figures there.
 use mathlib.Core.Bool.{Bool, true, false, cond, _&&_}
 use mathlib.Core.List.{List}
+use mathlib.Core.Logic.{⊎-elim}
 use mathlib.Core.Path.{_≡_, refl, sym, _∙_, ap, ap₂}
 use Prim.Native.Nat.{ℕ, suc, _+_, _-_, _*_, _≤_, _<_, zero-le}
 use native.Mathlib.Nat.{zero-add, le-trans}
@@ -14,6 +15,7 @@ use Rattle.periodise.proofs.Growth.{part-of-whole, whole-growth, growth-at-most
 use Rattle.rules.specs.Periodised.{sumSoFar, periodisedFigure}
 use Rattle.rules.specs.Record.{Reading}
 use Rattle.rules.specs.Words.{sum, at}
+use Rattle.rules.proofs.LargestRemainder.{less-cases}
 use Rattle.rules.proofs.Sums.{sum-cong, sum-split}
 
 -- what the curve weighs between two hours
@@ -50,6 +52,14 @@ figure-at-most e hours weight k b =
     rw (← whole-growth e hours weight k)
     (growth-at-most e 0 (sum hours weight) weight k (rw (zero-add (sum (suc k) weight)) (sum-rises weight b)))
 
+-- an hour lies in the reading, before it or after it
+by-hours : (r : Reading) (t : ℕ) {A : Type 0} → (r .a ≤ t → t < r .b → A) → (t < r .a → A) → (r .b ≤ t → A) → A
+by-hours r t inside before after =
+    ⊎-elim (λ (l : (t < r .a) × _). before (l .0))
+    (λ (g : (r .a ≤ t) × _).
+    ⊎-elim (λ (l : (t < r .b) × _). inside (g .0) (l .0)) (λ (n : (r .b ≤ t) × _). after (n .0)) (less-cases t (r .b)))
+    (less-cases t (r .a))
+
 module _ (weight : ℕ → ℕ) (r : Reading) (t : ℕ) where
   pub figure-inside : r .a ≤ t → t < r .b → figureBy weight r t ≡ periodisedFigure (r .e) (r .b - r .a) (λ k. weight (r .a + k)) (t - r .a)
   unfolding figureBy
@@ -62,6 +72,22 @@ module _ (weight : ℕ → ℕ) (r : Reading) (t : ℕ) where
   pub none-after : r .b ≤ t → figureBy weight r t ≡ 0
   unfolding figureBy
   none-after b = simp (le-ltb t (r .b) b) (both-ways (leb (r .a) t) _)
+
+-- only the weights of the reading's own hours count
+pub by-cong : {f g : ℕ → ℕ} (r : Reading) (t : ℕ) → ((i : ℕ) → i < r .b → f i ≡ g i) → figureBy f r t ≡ figureBy g r t
+by-cong {f} {g} r t same =
+    by-hours r t
+    (λ from-a to-b. figure-inside f r t from-a to-b ∙ figure-cong (r .e) (r .b - r .a) {f = λ k. f (r .a + k)} {g = λ k. g (r .a + k)} (t - r .a) (omega arith) (λ i c. same (r .a + i) (omega arith)) ∙ sym (figure-inside g r t from-a to-b))
+    (λ b. none-before f r t b ∙ sym (none-before g r t b))
+    (λ b. none-after f r t b ∙ sym (none-after g r t b))
+
+-- and no figure is above the reading's E
+pub by-at-most : (weight : ℕ → ℕ) (r : Reading) (t : ℕ) → figureBy weight r t ≤ r .e
+by-at-most weight r t =
+    by-hours r t
+    (λ from-a to-b. rw (figure-inside weight r t from-a to-b) (figure-at-most (r .e) (r .b - r .a) (λ k. weight (r .a + k)) (t - r .a) (omega arith)))
+    (λ b. rw (none-before weight r t b) zero-le)
+    (λ b. rw (none-after weight r t b) zero-le)
 
 -- THE PART'S GROWTHS ARE THE READING'S FIGURES: of the hours from `begin` on, as far as they lie in the reading
 module _ (weight : ℕ → ℕ) (r : Reading) {before whole begin : ℕ} (later : r .a ≤ begin) (before-is : before ≡ sum (begin - r .a) (λ k. weight (r .a + k))) (whole-is : whole ≡ sum (r .b - r .a) (λ k. weight (r .a + k))) where

@@ -1,3 +1,4 @@
 pub mod Parts
 pub mod Figures
 pub mod Adding
+pub mod Windows
