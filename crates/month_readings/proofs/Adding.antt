@@ -4,8 +4,8 @@ use mathlib.Core.Bool.{Bool, true, false}
 use mathlib.Core.List.{List}
 use mathlib.Core.Logic.{_⊎_, inl, inr, ⊎-elim}
 use mathlib.Core.Path.{_≡_, refl, sym, _∙_, ap, ap₂}
-use Prim.Native.Nat.{ℕ, suc, _+_, _-_, _*_, _^_, _≤_, _<_, max, min}
-use native.Mathlib.Nat.{add-zero, le-trans, mul-le-mul-right, eq-or-lt-of-le}
+use Prim.Native.Nat.{ℕ, suc, _+_, _-_, _*_, _≤_, _<_, max, min}
+use native.Mathlib.Nat.{le-trans, mul-le-mul-right, eq-or-lt-of-le}
 use native.Mathlib.Omega.{arith}
 use borrow.Author.Tests.{eqb-true, eqb-false, eq-eqb}
 use borrow.Rule.Slice.PartMut.{midOf, putMid, mid-len, same-len-mid}
@@ -14,7 +14,7 @@ use lib.ListN.{length}
 use Rattle.month_readings.specs.Window.{beginning, figureBy, figureTo, Taken, Added}
 use Rattle.month_readings.proofs.Figures.{between, figure-at-most, figure-inside, none-before, none-after, part-growth}
 use Rattle.month_readings.proofs.Parts.{part-at, before-part, in-part, after-part}
-use Rattle.periodise.specs.Growth.{growthFrom, grownFrom, greatestWhole, Part, Room}
+use Rattle.periodise.specs.Growth.{growthFrom, grownFrom, Part, Room}
 use Rattle.periodise.proofs.Growth.{sum-rises}
 use Rattle.periodise.proofs.Order.{sum-bound}
 use Rattle.rules.specs.Limits.{greatestCurveNumber, greatestEnergy}
@@ -22,7 +22,7 @@ use Rattle.rules.specs.Record.{Reading}
 use Rattle.rules.specs.Words.{sum, at, figures}
 use Rattle.rules.proofs.LargestRemainder.{less-cases}
 use Rattle.rules.proofs.Loops.{figures-length, figures-at}
-use Rattle.rules.proofs.Sums.{sum-cong, sum-split}
+use Rattle.rules.proofs.Sums.{sum-cong}
 
 module _ (weight : ℕ → ℕ) (r : Reading) (i t : ℕ) where
   to-its-party : i ≡ r .party → figureTo weight r i t ≡ figureBy weight r t

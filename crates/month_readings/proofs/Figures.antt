@@ -1,20 +1,18 @@
 -- A reading's figures in a part of its hours: the growths of the part, with the weight before it out of the weight of all, are the reading's figures there.
 use mathlib.Core.Bool.{Bool, true, false, cond, _&&_}
-use mathlib.Core.List.{List}
 use mathlib.Core.Logic.{⊎-elim}
 use mathlib.Core.Path.{_≡_, refl, sym, _∙_, ap, ap₂}
-use Prim.Native.Nat.{ℕ, suc, _+_, _-_, _*_, _≤_, _<_, zero-le}
-use native.Mathlib.Nat.{zero-add, le-trans}
+use Prim.Native.Nat.{ℕ, suc, _+_, _-_, _≤_, _<_, zero-le}
+use native.Mathlib.Nat.{zero-add}
 use native.Mathlib.Omega.{arith}
 use borrow.Author.Tests.{le-leb, lt-leb, lt-ltb, le-ltb}
-use lib.Dec.{leb, ltb}
-use lib.ListN.{length}
+use lib.Dec.{leb}
 use Rattle.month_readings.specs.Window.{beginning, figureBy}
 use Rattle.periodise.specs.Growth.{growthFrom}
 use Rattle.periodise.proofs.Growth.{part-of-whole, whole-growth, growth-at-most, sum-rises}
 use Rattle.rules.specs.Periodised.{sumSoFar, periodisedFigure}
 use Rattle.rules.specs.Record.{Reading}
-use Rattle.rules.specs.Words.{sum, at}
+use Rattle.rules.specs.Words.{sum}
 use Rattle.rules.proofs.LargestRemainder.{less-cases}
 use Rattle.rules.proofs.Sums.{sum-cong, sum-split}
 

@@ -49,7 +49,14 @@ fn weight_between(beginnings: &[u64], a: usize, b: usize) -> u64
 
 // One reading: the part of its hours that lies in the window. "the reading's a..b part of the curve slice is handed to the periodisation function as a slice
 // of its own" (01 "Expected forms by place").
-fn add_reading(x: Reading, curve: &[u32], beginnings: &[u64], start: usize, hours: usize, out: &mut [u64])
+fn add_reading(
+    x: Reading,
+    curve: &[u32],
+    beginnings: &[u64],
+    start: usize,
+    hours: usize,
+    out: &mut [u64],
+)
     requires { ⌜ Taken (readingOf x) (now curve) (now beginnings) start hours (now out) ⌝ }
     ensures { λ _. ⌜ Added (readingOf x) (now (curve .entry)) start hours (now (out .entry)) (now (out .exit)) ⌝ }
 {
@@ -63,12 +70,26 @@ fn add_reading(x: Reading, curve: &[u32], beginnings: &[u64], start: usize, hour
         let own = x.party as usize * hours;
         let low = own + (begin - start);
         let high = own + (end - start);
-        periodise::add(x.e_wh as u64, before, whole, &curve[begin..end], &mut out[low..high]);
+        periodise::add(
+            x.e_wh as u64,
+            before,
+            whole,
+            &curve[begin..end],
+            &mut out[low..high],
+        );
     }
 }
 
 // The window: all readings.
-pub fn window(file: &[u8], s: Sections, curve: &[u32], beginnings: &[u64], start: usize, hours: usize, out: &mut [u64])
+pub fn window(
+    file: &[u8],
+    s: Sections,
+    curve: &[u32],
+    beginnings: &[u64],
+    start: usize,
+    hours: usize,
+    out: &mut [u64],
+)
     requires { ⌜ Asked (now file) s (now curve) (now beginnings) start hours (length (now out)) ⌝ }
     ensures { λ _. ⌜ Window (monthOf (now (file .entry))) start hours (now (out .exit)) ⌝ }
 {

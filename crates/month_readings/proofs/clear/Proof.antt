@@ -1,3 +1,4 @@
+-- `month_readings::clear` meets its contract: the places passed hold 0. Assumes nothing.
 use mathlib.Core.Path.{refl}
 use Prim.Native.Nat.{_-_}
 use native.Mathlib.Omega.{arith}
@@ -7,8 +8,6 @@ use Rattle.month_readings.specs.Window.{noWh}
 use Rattle.rules.proofs.Loops.{Filling, fill-start, fill-next, fill-end}
 use Rattle.month_readings.proofs.clear.Statement.{statement}
 use Rattle.month_readings.proofs.clear.Tie as tie
-use Rattle.month_readings.proofs.clear.Reads as reads
-use Rattle.month_readings.proofs.clear.Lts as lts
 
 abbrev Inv-loop : tie.InvT-loop
 Inv-loop out₀ i₀ out i = Filling noWh (length out₀) out i
@@ -16,36 +15,28 @@ Inv-loop out₀ i₀ out i = Filling noWh (length out₀) out i
 abbrev μ-loop : tie.MeasureT-loop
 μ-loop out₀ i₀ out i = length out₀ - i
 
--- src/lib.rt:18:5
 loop-holds : tie.Need-loop-holds Inv-loop μ-loop
 loop-holds c = fill-start _ refl
 
--- src/lib.rt:19:9
 mul-out : tie.Need-mul-out Inv-loop μ-loop
 mul-out c = search needs
 
--- src/lib.rt:19:9
 slice-write-out : tie.Need-slice-write-out Inv-loop μ-loop
 slice-write-out c = search needs
 
--- src/lib.rt:20:9
 add-i : tie.Need-add-i Inv-loop μ-loop
 add-i c = search needs
 
--- src/lib.rt:18:5
 loop-less : tie.Need-loop-less Inv-loop μ-loop
 loop-less c = search needs
 
--- src/lib.rt:18:5
 loop-again : tie.Need-loop-again Inv-loop μ-loop
 unfolding noWh
 loop-again c = fill-next (c .before .loop .inv) (omega arith) refl
 
--- src/lib.rt:14:1
 same-length : tie.Need-same-length Inv-loop μ-loop
 same-length c = search needs
 
--- src/lib.rt:14:1
 returns : tie.Need-returns Inv-loop μ-loop
 returns c = fill-end (c .before .loop .inv) (omega arith)
 

@@ -1,3 +1,4 @@
+-- `month_readings::window` meets its contract: after j readings each place has the figures of the j (`Windows`). Assumes nothing.
 use Prim.Native.Nat.{_-_}
 use native.Mathlib.Omega.{arith}
 use borrow.Author.Needs.{needs}
@@ -5,11 +6,6 @@ use Rattle.month_readings.proofs.Windows.{Counted, counted-start, readi
 use Rattle.rules.specs.Month.{monthOf}
 use Rattle.month_readings.proofs.window.Statement.{statement}
 use Rattle.month_readings.proofs.window.Tie as tie
-use Rattle.month_readings.proofs.window.Reads as reads
-use Rattle.month_readings.proofs.window.Lts as lts
-use Rattle.month_file.proofs.reading.Reads as reading-reads
-use Rattle.month_readings.proofs.add_reading.Reads as add-reading-reads
-use Rattle.month_readings.proofs.clear.Reads as clear-reads
 
 abbrev Inv-loop : tie.InvT-loop
 Inv-loop file s curve beginnings start hours out₀ readings j₀ out j = Counted (monthOf file) start hours out j
@@ -17,39 +13,30 @@ Inv-loop file s curve beginnings start hours out₀ readings j₀ out j = Counte
 abbrev μ-loop : tie.MeasureT-loop
 μ-loop file s curve beginnings start hours out₀ readings j₀ out j = readings - j
 
--- src/lib.rt:75:5
 clear-requires : tie.Need-clear-requires Inv-loop μ-loop
 clear-requires c κs = search needs
 
--- src/lib.rt:78:5
 loop-holds : tie.Need-loop-holds Inv-loop μ-loop
 loop-holds c = counted-start (c .before .before .before .before .before .before .before .before .pre) (c .before .before .clear .ensures)
 
--- src/lib.rt:79:13
 reading-requires : tie.Need-reading-requires Inv-loop μ-loop
 reading-requires c κs = reading-asked (c .before .before .before .before .before .before .before .before .before .before .pre) (c .before .loop .inv) (c .loop-test .taken)
 
--- src/lib.rt:80:9
 add-reading-requires : tie.Need-add-reading-requires Inv-loop μ-loop
 add-reading-requires c κs = taken (c .before .before .before .before .before .before .before .before .before .before .before .before .pre) (c .before .before .before .loop .inv) (c .before .before .loop-test .taken) (c .before .reading .ensures)
 
--- src/lib.rt:81:9
 add-j : tie.Need-add-j Inv-loop μ-loop
 add-j c = search needs
 
--- src/lib.rt:78:5
 loop-less : tie.Need-loop-less Inv-loop μ-loop
 loop-less c = search needs
 
--- src/lib.rt:78:5
 loop-again : tie.Need-loop-again Inv-loop μ-loop
 loop-again c = counted-next (c .before .before .before .before .before .before .before .before .before .before .before .before .before .before .before .pre) (c .before .before .before .before .before .before .loop .inv) (c .before .before .before .before .before .loop-test .taken) (c .before .before .before .before .reading .ensures) (c .before .before .add-reading .ensures)
 
--- src/lib.rt:71:1
 same-length : tie.Need-same-length Inv-loop μ-loop
 same-length c = search needs
 
--- src/lib.rt:71:1
 returns : tie.Need-returns Inv-loop μ-loop
 returns c = counted-end (c .before .before .before .before .before .before .before .before .before .before .pre) (c .before .loop .inv) (omega arith)
 
