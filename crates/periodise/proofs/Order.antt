@@ -34,7 +34,8 @@ pub refused-keeps : {A : Type 0} {a : Answer} {r : Refusal} {place : ℕ} → a 
 unfolding afterwards
 refused-keeps e new old = rw e
 
-sum-bound : (n : ℕ) (f : ℕ → ℕ) (most : ℕ) → ((i : ℕ) → i < n → f i ≤ most) → sum n f ≤ n * most
+-- figures that are each at most `most` add up to at most so much
+pub sum-bound : (n : ℕ) (f : ℕ → ℕ) (most : ℕ) → ((i : ℕ) → i < n → f i ≤ most) → sum n f ≤ n * most
 unfolding sum
 sum-bound zero f most h = zero-le
 sum-bound (suc n) f most h = omega (arith, sum-bound n f most (λ i b. h i (omega arith)), h n (omega arith))

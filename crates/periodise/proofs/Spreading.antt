@@ -65,12 +65,12 @@ module _ {e before whole : ℕ} {weights : List ℕ} {f : ℕ → ℕ} {divisor 
           kept = rw (add-one i) (t .keeps ∙ ap (λ (x : ℕ). (x + e * at weights i) % divisor) (s .kept) ∙ rest-is e before whole (at weights) i divisor);
         }
 
-    -- where the hours' old figures stay and the growths are added
-    module _ {old : List ℕ} (u : Untouched old out i) {wh rest : ℕ} (t : Turned e (at weights i) left divisor wh rest) where
-      pub add-gives : at out i + wh ≡ grownFrom old e before whole (at weights) i
+    -- where the hours' old figures stay and the growths are added, each as one of 64 bits
+    module _ {old : List ℕ} (u : Untouched old out i) {wh rest : ℕ} (t : Turned e (at weights i) left divisor wh rest) {v : ℕ} (widened : v ≡ wh) where
+      pub add-gives : at out i + v ≡ grownFrom old e before whole (at weights) i
       unfolding grownFrom
       add-gives = omega (arith, u .same i (omega arith), turn-gives t)
 
-      pub add-fits : Room old e before whole weights → at out i + wh < 2 ^ 32
+      pub add-fits : Room old e before whole weights → at out i + v < 2 ^ 64
       unfolding Room
       add-fits room = rw add-gives (room i b)

@@ -42,9 +42,9 @@ pub record Turned (e weight left whole wh rest : ℕ) : Type 0 where
   pub figure : wh ≡ (left + e * weight) / whole
   pub keeps : rest ≡ (left + e * weight) % whole
 
--- each sum of the hours' old figures and the growths is one of 32 bits
+-- each sum of the hours' old figures and the growths is one of 64 bits
 unfoldable pub Room : List ℕ → ℕ → ℕ → ℕ → List ℕ → Type 0
-Room old e before whole weights = (k : ℕ) → k < length weights → grownFrom old e before whole (at weights) k < 2 ^ 32
+Room old e before whole weights = (k : ℕ) → k < length weights → grownFrom old e before whole (at weights) k < 2 ^ 64
 
 -- "E positive and S zero" (Refusal numbers, 13): the last check of the service
 unfoldable pub followCheck : ℕ → ℕ → Verdict

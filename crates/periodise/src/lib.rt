@@ -96,8 +96,8 @@ pub fn spread(e: u64, before: u64, whole: u64, weights: &[u32], out: &mut [u32])
     }
 }
 
-// The same, added to what the hours hold.
-pub fn add(e: u64, before: u64, whole: u64, weights: &[u32], out: &mut [u32])
+// The same, added to what the hours hold. They are of 64 bits: a party's readings may pass 32 bits in an hour before 14 is judged.
+pub fn add(e: u64, before: u64, whole: u64, weights: &[u32], out: &mut [u64])
     requires { ⌜ Part e before whole (now weights) (length (now out)) ⌝ ∗ ⌜ Room (now out) e before whole (now weights) ⌝ }
     ensures { λ r. ⌜ now (out .exit) ≡ figures (length (now (weights .entry))) (grownFrom (now (out .entry)) e before whole (at (now (weights .entry)))) ⌝ }
 {
@@ -106,7 +106,7 @@ pub fn add(e: u64, before: u64, whole: u64, weights: &[u32], out: &mut [u32])
     let mut i = 0;
     while i < weights.len() {
         let t = hour_of(e, weights[i], left, divisor);
-        out[i] = out[i] + t.wh;
+        out[i] = out[i] + wide(t.wh);
         left = t.left;
         i += 1;
     }

@@ -43,9 +43,12 @@ mul-out c = search needs
 slice-read-out : tie.Need-slice-read-out Inv-loop μ-loop
 slice-read-out c = search needs
 
+wide-requires : tie.Need-wide-requires Inv-loop μ-loop
+wide-requires c κs = search needs
+
 add-out : tie.Need-add-out Inv-loop μ-loop
 unfolding at
-add-out c = omega (arith, add-fits (c .before .before .before .before .before .before .before .before .before .before .pre .0) (c .before .before .before .before .before .loop .inv .0) (c .before .before .before .before .loop-test .taken) (c .before .before .before .before .before .loop .inv .1) (c .before .before .hour-of .ensures) (c .before .before .before .before .before .before .before .before .before .before .pre .1))
+add-out c = omega (arith, add-fits (c .before .before .before .before .before .before .before .before .before .before .pre .0) (c .before .before .before .before .before .loop .inv .0) (c .before .before .before .before .loop-test .taken) (c .before .before .before .before .before .loop .inv .1) (c .before .before .hour-of .ensures) (c .wide .ensures) (c .before .before .before .before .before .before .before .before .before .before .pre .1))
 
 mul-out-2 : tie.Need-mul-out-2 Inv-loop μ-loop
 mul-out-2 c = search needs
@@ -61,7 +64,7 @@ loop-less c = search needs
 
 loop-again : tie.Need-loop-again Inv-loop μ-loop
 unfolding at
-loop-again c = (spread-next (c .before .before .before .before .before .before .before .before .before .before .pre .0) (c .before .before .before .before .before .loop .inv .0) (c .before .before .before .before .loop-test .taken) (c .before .before .hour-of .ensures) (add-gives (c .before .before .before .before .before .before .before .before .before .before .pre .0) (c .before .before .before .before .before .loop .inv .0) (c .before .before .before .before .loop-test .taken) (c .before .before .before .before .before .loop .inv .1) (c .before .before .hour-of .ensures)), untouched-next _ (c .before .before .before .before .before .loop .inv .1))
+loop-again c = (spread-next (c .before .before .before .before .before .before .before .before .before .before .pre .0) (c .before .before .before .before .before .loop .inv .0) (c .before .before .before .before .loop-test .taken) (c .before .before .hour-of .ensures) (add-gives (c .before .before .before .before .before .before .before .before .before .before .pre .0) (c .before .before .before .before .before .loop .inv .0) (c .before .before .before .before .loop-test .taken) (c .before .before .before .before .before .loop .inv .1) (c .before .before .hour-of .ensures) (c .wide .ensures)), untouched-next _ (c .before .before .before .before .before .loop .inv .1))
 
 same-length : tie.Need-same-length Inv-loop μ-loop
 same-length c = search needs
@@ -83,6 +86,7 @@ add-spec =
     hour-of-requires
     mul-out
     slice-read-out
+    wide-requires
     add-out
     mul-out-2
     slice-write-out
