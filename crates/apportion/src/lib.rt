@@ -290,7 +290,7 @@ fn shape(lent: usize, parties: usize, hours: usize) -> Answer
 }
 
 // 6: W, the sum of at most 64 shares within their limit.
-fn w_in_range(shares: &[u64]) -> Answer
+pub fn w_in_range(shares: &[u64]) -> Answer
     requires { ⌜ FewShares (now shares) ⌝ }
     ensures { λ r. ⌜ said r ≡ wVerdict (now (shares .entry)) ⌝ }
 {

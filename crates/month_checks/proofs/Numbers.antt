@@ -1,0 +1,2 @@
+-- The curve's numbers.
+use mathlib.Core.List.{List}
