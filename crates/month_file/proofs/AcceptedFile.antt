@@ -16,14 +16,14 @@ use Rattle.rules.specs.MonthFile.{MonthFile, H, P, readMonth}
 use Rattle.rules.specs.Refusals.{Answer, given}
 use Rattle.rules.proofs.Whole.{Whole, what-is-read-is-whole}
 
-pub month-of : {file : List ℕ} {m : MonthFile} → readMonth file ≡ given m → monthOf file ≡ m
+pub month-of : (file : List ℕ) {m : MonthFile} → readMonth file ≡ given m → monthOf file ≡ m
 unfolding monthOf monthRead
-month-of e = ap monthRead e
+month-of file e = ap monthRead e
 
 module _ (file : List ℕ) (s : Sections) (ok : Accepted file s) where
   -- the file is read as its month
   pub read-as : readMonth file ≡ given (monthOf file)
-  read-as = let m = its-month file s ok in m .1 ∙ ap given (sym (month-of (m .1)))
+  read-as = let m = its-month file s ok in m .1 ∙ ap given (sym (month-of file (m .1)))
 
   -- which is whole
   pub month-whole : Whole (monthOf file)
