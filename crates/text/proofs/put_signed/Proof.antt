@@ -1,47 +1,37 @@
+-- `text::put_signed` meets its contract: the size by itself, or after a minus. Assumes nothing.
+use native.Mathlib.Omega.{arith}
+use Rattle.text.proofs.Puts.{put-as, put-then}
+use Rattle.text.proofs.Signs.{signed-size, plain-text, minus-text}
 use borrow.Author.Needs.{needs}
 use Rattle.text.proofs.put_signed.Statement.{statement}
 use Rattle.text.proofs.put_signed.Tie as tie
-use Rattle.text.proofs.put_signed.Reads as reads
-use Rattle.text.proofs.put_signed.Lts as lts
-use Rattle.text.proofs.put_bytes.Reads as put-bytes-reads
-use Rattle.text.proofs.put_number.Reads as put-number-reads
-use Rattle.text.proofs.size.Reads as size-reads
 
--- src/lib.rt:86:9
 size-requires : tie.Need-size-requires
 size-requires c κs = search needs
 
--- src/lib.rt:88:9
 put-number-requires : tie.Need-put-number-requires
-put-number-requires c κs = ?
+put-number-requires c κs = omega (arith, signed-size (c .before .before .before .before .fits .z) (c .before .before .size .ensures))
 
--- src/lib.rt:88:9
 same-length : tie.Need-same-length
 same-length c = search needs
 
--- src/lib.rt:88:9
 returns : tie.Need-returns
-returns c = ?
+returns c = (put-as (plain-text (c .before .before .before .before .before .before .before .fits .z) (c .before .before .before .before .if1 .taken) (c .before .before .before .before .before .size .ensures)) (c .before .before .put-number .ensures), omega (arith, signed-size (c .before .before .before .before .before .before .before .fits .z) (c .before .before .before .before .before .size .ensures)))
 
--- src/lib.rt:90:40
 slice-aggregate-put-bytes : tie.Need-slice-aggregate-put-bytes
 slice-aggregate-put-bytes c = search needs
 
--- src/lib.rt:90:9
 put-bytes-requires : tie.Need-put-bytes-requires
 put-bytes-requires c κs = search needs
 
--- src/lib.rt:91:5
 put-number-requires-2 : tie.Need-put-number-requires-2
-put-number-requires-2 c κs = ?
+put-number-requires-2 c κs = omega (arith, signed-size (c .before .before .before .before .before .before .before .before .before .fits .z) (c .before .before .before .before .before .before .before .size .ensures))
 
--- src/lib.rt:81:1
 same-length-2 : tie.Need-same-length-2
 same-length-2 c = search needs
 
--- src/lib.rt:81:1
 returns-2 : tie.Need-returns-2
-returns-2 c = ?
+returns-2 c = (put-as (minus-text (c .before .before .before .before .before .before .before .before .before .before .before .before .fits .z) (c .before .before .before .before .before .before .before .before .before .if1 .left) (c .before .before .before .before .before .before .before .before .before .before .size .ensures)) (put-then (c .before .before .before .before .before .before .put-bytes .ensures) (c .before .before .put-number2 .ensures)), omega (arith, signed-size (c .before .before .before .before .before .before .before .before .before .before .before .before .fits .z) (c .before .before .before .before .before .before .before .before .before .before .size .ensures)))
 
 pub put-signed-spec : {M : Type 1} → statement M
 put-signed-spec =
