@@ -32,7 +32,7 @@ enough (suc a) (suc b) n h k =
     ⊎-elim
     (λ (one : n < 10). one-digit a n one ∙ sym (one-digit b n one))
     (λ (more : 10 ≤ n).
-      more-digits a n more ∙ ap (λ (s : List ℕ). s ++ last n) (enough a b (n / 10) (omega arith) (omega arith)) ∙ sym (more-digits b n more))
+    more-digits a n more ∙ ap (λ (s : List ℕ). s ++ last n) (enough a b (n / 10) (omega arith) (omega arith)) ∙ sym (more-digits b n more))
     (tens n)
 
 pub decimal-one : (n : ℕ) → n < 10 → last n ≡ decimal n
@@ -59,8 +59,8 @@ digits-at-most (suc most) (suc k) n h =
     ⊎-elim
     (λ (one : n < 10). rw (one-digit most n one) (omega arith))
     (λ (more : 10 ≤ n).
-      let rest : length (digitsIn most (n / 10)) ≤ suc k = digits-at-most most k (n / 10) (omega (arith, pow-suc 10 (suc k))) in
-      rw (more-digits most n more, length-append) (omega arith))
+    let rest : length (digitsIn most (n / 10)) ≤ suc k = digits-at-most most k (n / 10) (omega (arith, pow-suc 10 (suc k))) in
+    rw (more-digits most n more, length-append) (omega arith))
     (tens n)
 
 pub decimal-at-most : (k n : ℕ) → n < 10 ^ suc k → length (decimal n) ≤ suc k

@@ -90,3 +90,74 @@ pub fn put_signed(out: &mut [u8], place: usize, z: i64) -> usize
     let digits = put_bytes(out, place, b"-");
     put_number(out, digits, n)
 }
+
+// A word, and then a number: as it is, or with so many digits.
+fn put_word_number(out: &mut [u8], place: usize, word: &[u8], n: u64) -> usize
+    requires { ⌜ place + length (now word) + mostDigits ≤ length (now out) ⌝ }
+    ensures text { λ end. ⌜ Put (now (word .entry) ++ decimal n) (now (out .entry)) place (now (out .exit)) end ⌝ }
+    ensures within { λ end. ⌜ end ≤ place + length (now (word .entry)) + mostDigits ⌝ }
+{
+    let digits = put_bytes(out, place, word);
+    put_number(out, digits, n)
+}
+
+fn put_word_width(out: &mut [u8], place: usize, word: &[u8], width: usize, n: u64) -> usize
+    requires { ⌜ place + length (now word) + width ≤ length (now out) ⌝ }
+    ensures text { λ end. ⌜ Put (now (word .entry) ++ digitsOfWidth width n) (now (out .entry)) place (now (out .exit)) end ⌝ }
+    ensures within { λ end. ⌜ end ≤ place + length (now (word .entry)) + width ⌝ }
+{
+    let digits = put_bytes(out, place, word);
+    put_width(out, digits, width, n)
+}
+
+// A column: a space, and then a number with its sign.
+fn put_column(out: &mut [u8], place: usize, z: i64) -> usize
+    requires { ⌜ place + 1 + mostDigits ≤ length (now out) ⌝ }
+    ensures text { λ end. ⌜ Put (ascii " " ++ signedDecimal z) (now (out .entry)) place (now (out .exit)) end ⌝ }
+    ensures within { λ end. ⌜ end ≤ place + 1 + mostDigits ⌝ }
+{
+    let number = put_bytes(out, place, b" ");
+    put_signed(out, number, z)
+}
+
+// "area (three digits), year-month"
+fn put_area_month(out: &mut [u8], place: usize, area: u64, year: u64, month: u64) -> usize
+    requires { ⌜ place + 32 ≤ length (now out) ⌝ }
+    ensures text { λ end. ⌜ Put (ascii "area " ++ digitsOfWidth 3 area ++ ascii " " ++ decimal year ++ ascii "-" ++ digitsOfWidth 2 month) (now (out .entry)) place (now (out .exit)) end ⌝ }
+    ensures within { λ end. ⌜ end ≤ place + 32 ⌝ }
+{
+    let after_area = put_word_width(out, place, b"area ", 3, area);
+    let after_year = put_word_number(out, after_area, b" ", year);
+    put_word_width(out, after_year, b"-", 2, month)
+}
+
+// "H, P and the number of applied hours with status 2", and the newline
+fn put_counts(out: &mut [u8], place: usize, hours: u64, parties: u64, estimated: u64) -> usize
+    requires { ⌜ place + 88 ≤ length (now out) ⌝ }
+    ensures text { λ end. ⌜ Put (ascii " hours " ++ decimal hours ++ ascii " parties " ++ decimal parties ++ ascii " estimated " ++ decimal estimated ++ newline) (now (out .entry)) place (now (out .exit)) end ⌝ }
+    ensures within { λ end. ⌜ end ≤ place + 88 ⌝ }
+{
+    let after_hours = put_word_number(out, place, b" hours ", hours);
+    let after_parties = put_word_number(out, after_hours, b" parties ", parties);
+    let after_estimated = put_word_number(out, after_parties, b" estimated ", estimated);
+    put_bytes(out, after_estimated, b"\n")
+}
+
+// THE HEADING LINE: "a heading line with area (three digits), year-month, H, P and the number of applied hours with status 2"
+pub fn heading_line(
+    out: &mut [u8],
+    place: usize,
+    area: u16,
+    year: u16,
+    month: u8,
+    hours: u16,
+    parties: u8,
+    estimated: usize,
+) -> usize
+    requires { ⌜ place + headingRoom ≤ length (now out) ⌝ }
+    ensures text { λ end. ⌜ Put (headingText area year month hours parties estimated) (now (out .entry)) place (now (out .exit)) end ⌝ }
+    ensures within { λ end. ⌜ end ≤ place + headingRoom ⌝ }
+{
+    let counts = put_area_month(out, place, area as u64, year as u64, month as u64);
+    put_counts(out, counts, hours as u64, parties as u64, estimated as u64)
+}
