@@ -39,3 +39,25 @@ module _ {b : List ℕ} {p : ℕ} where
   pub column : {z : ℤ} → SFits w64 z → {m a : List ℕ} {q e : ℕ} → Put (ascii " ") b p m q → Put (signedDecimal (toZ w64 (ofZ w64 z))) m q a e
       → Put (ascii " " ++ signedDecimal z) b p a e
   column f h k = put-then h (put-as (ap signedDecimal (toZ-ofZ f)) k)
+
+  pub name-energies : {distributed : ℤ} → SFits w64 distributed → (periodised : ℕ) {name m m′ a : List ℕ} {q q′ e : ℕ} → Put name b p m q
+      → Put (ascii " " ++ signedDecimal (toZ w64 (ofZ w64 distributed))) m q m′ q′
+      → Put (ascii " " ++ decimal periodised) m′ q′ a e
+      → Put (name ++ ascii " " ++ signedDecimal distributed ++ ascii " " ++ decimal periodised) b p a e
+  name-energies f periodised h k l = rw (toZ-ofZ f) at (pair (ascii " ") _ (pair (ascii " ") _ h k) l)
+
+  pub results : {loss difference ore : ℤ} → SFits w64 loss → SFits w64 difference → SFits w64 ore → {m m′ m″ a : List ℕ} {q q′ q″ e : ℕ}
+      → Put (ascii " " ++ signedDecimal (toZ w64 (ofZ w64 loss))) b p m q
+      → Put (ascii " " ++ signedDecimal (toZ w64 (ofZ w64 difference))) m q m′ q′
+      → Put (ascii " " ++ signedDecimal (toZ w64 (ofZ w64 ore))) m′ q′ m″ q″
+      → Put newline m″ q″ a e
+      → Put (ascii " " ++ signedDecimal loss ++ ascii " " ++ signedDecimal difference ++ ascii " " ++ signedDecimal ore ++ newline) b p a e
+  results f g i h k l n =
+      rw (toZ-ofZ f, toZ-ofZ g, toZ-ofZ i) at (put-then (pair (ascii " ") _ (pair (ascii " ") _ h k) l) n)
+
+  pub columns : {distributed loss difference ore : ℤ} → SFits w64 distributed → SFits w64 loss → SFits w64 difference → SFits w64 ore → (name : List ℕ) (periodised : ℕ) {m a : List ℕ} {q e : ℕ}
+      → Put (name ++ ascii " " ++ signedDecimal (toZ w64 (ofZ w64 distributed)) ++ ascii " " ++ decimal periodised) b p m q
+      → Put (ascii " " ++ signedDecimal (toZ w64 (ofZ w64 loss)) ++ ascii " " ++ signedDecimal (toZ w64 (ofZ w64 difference)) ++ ascii " " ++ signedDecimal (toZ w64 (ofZ w64 ore)) ++ newline) m q a e
+      → Put (columnsLine name distributed periodised loss difference ore) b p a e
+  unfolding columnsLine
+  columns d f g i name periodised h k = put-as (rw (toZ-ofZ d, toZ-ofZ f, toZ-ofZ g, toZ-ofZ i) (simp append-assoc)) (put-then h k)

@@ -161,3 +161,75 @@ pub fn heading_line(
     let counts = put_area_month(out, place, area as u64, year as u64, month as u64);
     put_counts(out, counts, hours as u64, parties as u64, estimated as u64)
 }
+
+// The first columns: "GLN, distributed, periodised"
+fn put_name_energies(
+    out: &mut [u8],
+    place: usize,
+    name: &[u8],
+    distributed_wh: i64,
+    periodised_wh: u64,
+) -> usize
+    requires { ⌜ (length (now name) ≤ 13) × (place + 55 ≤ length (now out)) ⌝ }
+    ensures text { λ end. ⌜ Put (now (name .entry) ++ ascii " " ++ signedDecimal «distributed_wh» ++ ascii " " ++ decimal «periodised_wh») (now (out .entry)) place (now (out .exit)) end ⌝ }
+    ensures within { λ end. ⌜ end ≤ place + 55 ⌝ }
+{
+    let after_name = put_bytes(out, place, name);
+    let after_distributed = put_column(out, after_name, distributed_wh);
+    put_word_number(out, after_distributed, b" ", periodised_wh)
+}
+
+// The last columns: "loss, difference .. and invoice øre", and the newline
+fn put_results(out: &mut [u8], place: usize, loss_wh: i64, difference_wh: i64, ore: i64) -> usize
+    requires { ⌜ place + 64 ≤ length (now out) ⌝ }
+    ensures text { λ end. ⌜ Put (ascii " " ++ signedDecimal «loss_wh» ++ ascii " " ++ signedDecimal «difference_wh» ++ ascii " " ++ signedDecimal ore ++ newline) (now (out .entry)) place (now (out .exit)) end ⌝ }
+    ensures within { λ end. ⌜ end ≤ place + 64 ⌝ }
+{
+    let after_loss = put_column(out, place, loss_wh);
+    let after_difference = put_column(out, after_loss, difference_wh);
+    let after_ore = put_column(out, after_difference, ore);
+    put_bytes(out, after_ore, b"\n")
+}
+
+// A LINE OF COLUMNS, of a party by its GLN or of the total by that word: "distributed, periodised, loss, difference (month sums in Wh) and invoice øre"
+pub fn columns_line(
+    out: &mut [u8],
+    place: usize,
+    name: &[u8],
+    distributed_wh: i64,
+    periodised_wh: u64,
+    loss_wh: i64,
+    difference_wh: i64,
+    ore: i64,
+) -> usize
+    requires { ⌜ (length (now name) ≤ 13) × (place + columnsRoom ≤ length (now out)) ⌝ }
+    ensures text { λ end. ⌜ Put (columnsLine (now (name .entry)) «distributed_wh» «periodised_wh» «loss_wh» «difference_wh» ore) (now (out .entry)) place (now (out .exit)) end ⌝ }
+    ensures within { λ end. ⌜ end ≤ place + columnsRoom ⌝ }
+{
+    let results = put_name_energies(out, place, name, distributed_wh, periodised_wh);
+    put_results(out, results, loss_wh, difference_wh, ore)
+}
+
+// The refusal line at the start of a buffer that has room for the longest.
+fn put_refusal(refusal: Refusal, place: usize, out: &mut [u8]) -> usize
+    requires { ⌜ longestRefusalLine ≤ length (now out) ⌝ }
+    ensures text { λ end. ⌜ Put (refusalLine (named refusal) place) (now (out .entry)) 0 (now (out .exit)) end ⌝ }
+    ensures within { λ end. ⌜ end ≤ longestRefusalLine ⌝ }
+{
+    let number = answer::number(refusal) as u64;
+    let after_number = put_word_number(out, 0, b"refused ", number);
+    let after_place = put_word_number(out, after_number, b" at ", place as u64);
+    put_bytes(out, after_place, b"\n")
+}
+
+// THE REFUSAL LINE: "On refusal it prints one line, `refused N at P`." It stands at the start of the lent buffer, and the bytes after it are kept; a buffer
+// too short for the longest refusal line is refused with 16.
+pub fn refusal_line(refusal: Refusal, place: usize, out: &mut [u8]) -> Written
+    ensures answer { λ w. ⌜ told w ≡ answer (roomForRefusal (now (out .entry))) (length (refusalLine (named refusal) place)) ⌝ }
+    ensures contents { λ w. ⌜ now (out .exit) ≡ afterwards (roomForRefusal (now (out .entry))) (atStart (refusalLine (named refusal) place) (now (out .entry))) (now (out .entry)) ⌝ }
+{
+    if out.len() < LONGEST_REFUSAL_LINE {
+        return Written::Refused(Refusal::WrongLength, 0);
+    }
+    Written::Bytes(put_refusal(refusal, place, out))
+}
