@@ -7,7 +7,7 @@ use native.Mathlib.Nat.{pow-suc, eq-zero-or-pos}
 use native.Mathlib.Omega.{arith}
 use borrow.Author.Tests.{lt-ltb, le-ltb}
 use lib.ListN.{length, length-append}
-use Rattle.rules.specs.Statement.{digitsIn, decimal, signedDecimal, digitsOfWidth}
+use Rattle.rules.specs.Statement.{digitsIn, decimal, digitsOfWidth}
 
 -- the last digit after those of the rest
 abbrev last : ℕ → List ℕ
@@ -71,10 +71,7 @@ decimal-at-most k n h = digits-at-most (suc n) k n h
 pub number-size : (n : ℕ) → n < 2 ^ 64 → length (decimal n) ≤ 20
 number-size n h = decimal-at-most 19 n (omega arith)
 
--- one byte before at most 63 bits
-pub size-below-minus : (n : ℕ) → n < 2 ^ 63 → length (decimal (suc n)) ≤ 19
-size-below-minus n h = decimal-at-most 18 (suc n) (omega arith)
-
+-- a number with its digits
 pub width-size : (width n : ℕ) → length (digitsOfWidth width n) ≡ width
 unfolding digitsOfWidth
 width-size zero n = refl

@@ -3,3 +3,4 @@ pub mod Digits
 pub mod Signs
 pub mod Lines
 pub mod RefusalLine
+pub mod Unique

@@ -1,10 +1,8 @@
--- A line of the statement from the texts put one after the other, and how long a word with a number is. Each law takes what the parts' functions promise.
-use mathlib.Core.List.{List, [], _∷_, _++_, append-assoc}
-use mathlib.Core.Path.{_≡_, refl, sym, _∙_, ap}
-use Prim.Native.Nat.{ℕ, _+_, _^_, _≤_, _<_}
-use native.Mathlib.Omega.{arith}
+-- A line of the statement from the texts put one after the other. Each law takes what the parts' functions promise.
+use mathlib.Core.List.{List, _++_, append-assoc}
+use mathlib.Core.Path.{sym, ap}
+use Prim.Native.Nat.{ℕ}
 use lib.IntN.{ℤ}
-use lib.ListN.{length, length-append}
 use mir.Facts.{toZ-ofZ}
 use mir.Syntax.{w64}
 use mir.Val.{SFits, toZ, ofZ}

@@ -1,12 +1,12 @@
 -- The refusal line: how long its parts are, its text from the texts put one after the other, and what is promised of a buffer with room and of one without.
 use mathlib.Core.List.{List, _++_, append-assoc}
-use mathlib.Core.Path.{_≡_, refl, sym, _∙_, ap}
-use Prim.Native.Nat.{ℕ, _+_, _≤_, _<_}
+use mathlib.Core.Path.{_≡_, refl, _∙_, ap}
+use Prim.Native.Nat.{ℕ, _≤_, _<_}
 use native.Mathlib.Nat.{zero-add}
 use native.Mathlib.Omega.{arith}
 use borrow.Author.Tests.{le-leb, lt-leb}
 use lib.ListN.{length, drop, length-append}
-use lib.Seq.{sets, sets-eq}
+use lib.Seq.{sets-eq}
 use Rattle.rules.specs.Refusals.{Refusal, fileFault, unknownKind, outOfOrder, outOfRange, glnFault, wOutOfRange, missingHour, residualNegative, residualTooLarge, curveTooLarge, spanFault, energyTooLarge, nothingToFollow, periodisedTooLarge, wrongCount, wrongLength, numberOf, Answer, given, refusal, unless, answer, afterwards}
 use Rattle.rules.specs.Statement.{decimal, newline, refusalLine}
 use Rattle.rules.specs.Words.{ascii}

@@ -1,8 +1,8 @@
 -- Numbers with a sign: the size of one of 64 bits, and its text by that size, after a minus where it is negative.
 use mathlib.Core.Bool.{true, false}
-use mathlib.Core.List.{List, _∷_, [], _++_}
+use mathlib.Core.List.{_∷_, [], _++_}
 use mathlib.Core.Path.{_≡_, refl, sym, _∙_, ap}
-use Prim.Native.Nat.{ℕ, suc, _+_, _-_, _^_, _≤_, _<_}
+use Prim.Native.Nat.{ℕ, suc, _+_, _^_, _≤_, _<_}
 use native.Mathlib.Omega.{arith}
 use borrow.Author.Tests.{le-ltb}
 use lib.Dec.{T, leb·zero}

@@ -43,7 +43,7 @@ pub fn put_number(out: &mut [u8], place: usize, n: u64) -> usize
 }
 
 // "area (3 digits), month (2) .. keep theirs": so many digits, zeros before the number.
-pub fn put_width(out: &mut [u8], place: usize, width: usize, n: u64) -> usize
+fn put_width(out: &mut [u8], place: usize, width: usize, n: u64) -> usize
     requires { ⌜ place + width ≤ length (now out) ⌝ }
     ensures { λ end. ⌜ Put (digitsOfWidth width n) (now (out .entry)) place (now (out .exit)) end ⌝ }
 {
@@ -55,7 +55,7 @@ pub fn put_width(out: &mut [u8], place: usize, width: usize, n: u64) -> usize
 }
 
 // Bytes as they are.
-pub fn put_bytes(out: &mut [u8], place: usize, text: &[u8]) -> usize
+fn put_bytes(out: &mut [u8], place: usize, text: &[u8]) -> usize
     requires { ⌜ place + length (now text) ≤ length (now out) ⌝ }
     ensures { λ end. ⌜ Put (now (text .entry)) (now (out .entry)) place (now (out .exit)) end ⌝ }
 {
@@ -78,7 +78,7 @@ fn size(z: i64) -> u64
 }
 
 // "a minus before negatives"
-pub fn put_signed(out: &mut [u8], place: usize, z: i64) -> usize
+fn put_signed(out: &mut [u8], place: usize, z: i64) -> usize
     requires { ⌜ place + mostDigits ≤ length (now out) ⌝ }
     ensures text { λ end. ⌜ Put (signedDecimal z) (now (out .entry)) place (now (out .exit)) end ⌝ }
     ensures within { λ end. ⌜ end ≤ place + mostDigits ⌝ }
