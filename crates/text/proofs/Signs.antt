@@ -4,11 +4,11 @@ use mathlib.Core.List.{_∷_, [], _++_}
 use mathlib.Core.Path.{_≡_, refl, sym, _∙_, ap}
 use Prim.Native.Nat.{ℕ, suc, _+_, _^_, _≤_, _<_}
 use native.Mathlib.Omega.{arith}
-use borrow.Author.Tests.{le-ltb}
-use lib.Dec.{T, leb·zero}
+use borrow.Author.Tests.{ltb-true, le-ltb}
+use lib.Dec.{T}
 use lib.IntN.{ℤ, pos, negsuc, natAbs, _-ℤ_}
 use lib.ListN.{length}
-use lib.Signed.{mag, leZ, nonNeg}
+use lib.Signed.{mag, ltZ, nonNeg}
 use mir.Facts.{toZ-ofZ}
 use mir.Syntax.{w64}
 use mir.Val.{Fits, SFits, toZ, ofZ}
@@ -16,12 +16,12 @@ use Rattle.rules.specs.Statement.{decimal, signedDecimal}
 use Rattle.rules.specs.Words.{ascii}
 use Rattle.text.proofs.Digits.{decimal-at-most}
 
-above : (z : ℤ) → leZ (pos 0) z ≡ true → z ≡ pos (mag z)
+above : (z : ℤ) → ltZ z (pos 0) ≡ false → z ≡ pos (mag z)
 above (pos n) e = refl
 above (negsuc n) e = let q : _≡_ {A = ℕ} 0 1 = cc in absurd (omega arith)
 
-below : (z : ℤ) → leZ (pos 0) z ≡ false → z ≡ negsuc (mag z)
-below (pos n) e = let q : _≡_ {A = ℕ} 0 1 = cc (leb·zero n) in absurd (omega arith)
+below : (z : ℤ) → ltZ z (pos 0) ≡ true → z ≡ negsuc (mag z)
+below (pos n) e = let none : n < 0 = ltb-true n 0 e in absurd (omega arith)
 below (negsuc n) e = refl
 
 -- -1 - z of a negative z
@@ -40,7 +40,7 @@ module _ {z : ℤ} (f : SFits w64 z) where
   pub signed-size : {n : ℕ} → n ≡ natAbs (toZ w64 (ofZ w64 z)) → length (decimal n) ≤ 19
   signed-size e = rw (size-is e) (size-at-most z (f .sfits))
 
-  module _ (h : leZ (pos 0) (toZ w64 (ofZ w64 z)) ≡ true) where
+  module _ (h : ltZ (toZ w64 (ofZ w64 z)) (pos 0) ≡ false) where
     is-above : z ≡ pos (mag z)
     is-above = above z (rw (toZ-ofZ f) at h)
 
@@ -51,7 +51,7 @@ module _ {z : ℤ} (f : SFits w64 z) where
     unfolding signedDecimal
     plain-text e = ap decimal (size-is e ∙ ap natAbs is-above) ∙ sym (ap signedDecimal is-above)
 
-  module _ (h : leZ (pos 0) (toZ w64 (ofZ w64 z)) ≡ false) where
+  module _ (h : ltZ (toZ w64 (ofZ w64 z)) (pos 0) ≡ true) where
     is-below : z ≡ negsuc (mag z)
     is-below = below z (rw (toZ-ofZ f) at h)
 

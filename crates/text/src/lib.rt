@@ -68,27 +68,27 @@ fn put_bytes(out: &mut [u8], place: usize, text: &[u8]) -> usize
 }
 
 // The size of a number without its sign; -1 - z is one less than that of a negative z, and fits for every z.
-fn size(z: i64) -> u64
-    ensures { λ n. ⌜ n ≡ natAbs z ⌝ }
+fn size(signed: i64) -> u64
+    ensures { λ n. ⌜ n ≡ natAbs signed ⌝ }
 {
-    if 0 <= z {
-        return z as u64;
+    if signed < 0 {
+        return (-1 - signed) as u64 + 1;
     }
-    (-1 - z) as u64 + 1
+    signed as u64
 }
 
-// "a minus before negatives"
+// "a minus before negatives", and none before 0
 fn put_signed(out: &mut [u8], place: usize, z: i64) -> usize
     requires { ⌜ place + mostDigits ≤ length (now out) ⌝ }
     ensures text { λ end. ⌜ Put (signedDecimal z) (now (out .entry)) place (now (out .exit)) end ⌝ }
     ensures within { λ end. ⌜ end ≤ place + mostDigits ⌝ }
 {
     let n = size(z);
-    if 0 <= z {
-        return put_number(out, place, n);
+    if z < 0 {
+        let digits = put_bytes(out, place, b"-");
+        return put_number(out, digits, n);
     }
-    let digits = put_bytes(out, place, b"-");
-    put_number(out, digits, n)
+    put_number(out, place, n)
 }
 
 // A word, and then a number: as it is, or with so many digits.
