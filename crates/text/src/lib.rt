@@ -50,8 +50,8 @@ fn put_width(out: &mut [u8], place: usize, width: usize, n: u64) -> usize
     if width < 1 {
         return place;
     }
-    let last = put_width(out, place, width - 1, n / 10);
-    put_digit(out, last, n)
+    let units = put_width(out, place, width - 1, n / 10);
+    put_digit(out, units, n)
 }
 
 // Bytes as they are.

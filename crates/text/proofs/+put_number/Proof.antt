@@ -30,7 +30,7 @@ put-number-put-digit-requires : (t : ℕ) → put-number-lts.Need-put-digit-requ
   put-number-below t,
   put-number.Post,
 ) (put-number-at t) put-number.Post
-put-number-put-digit-requires t c κs = omega (arith, one-size _ (c .before .if1 .taken))
+put-number-put-digit-requires t c κs = omega (arith, one-size (c .before .before .before .args .n) (omega arith))
 
 put-number-same-length : (t : ℕ) → put-number-lts.Need-same-length (
   put-digit-reads.Asked,
@@ -46,7 +46,7 @@ put-number-returns : (t : ℕ) → put-number-lts.Need-returns (
   put-number-below t,
   put-number.Post,
 ) (put-number-at t) put-number.Post
-put-number-returns t c = put-as (decimal-one _ (c .before .before .before .before .if1 .taken)) (c .before .before .put-digit .ensures)
+put-number-returns t c = put-as (decimal-one _ (omega arith)) (c .before .before .put-digit .ensures)
 
 put-number-put-number-requires : (t : ℕ) → put-number-lts.Need-put-number-requires (
   put-digit-reads.Asked,
@@ -54,7 +54,7 @@ put-number-put-number-requires : (t : ℕ) → put-number-lts.Need-put-number-re
   put-number-below t,
   put-number.Post,
 ) (put-number-at t) put-number.Post
-put-number-put-number-requires t c κs = (omega arith, omega (arith, more-size _ (c .before .if1 .left)))
+put-number-put-number-requires t c κs = (omega arith, omega (arith, more-size (c .before .before .before .args .n) (omega arith)))
 
 put-number-put-digit-requires-2 : (t : ℕ) → put-number-lts.Need-put-digit-requires-2 (
   put-digit-reads.Asked,
@@ -62,7 +62,7 @@ put-number-put-digit-requires-2 : (t : ℕ) → put-number-lts.Need-put-digit-re
   put-number-below t,
   put-number.Post,
 ) (put-number-at t) put-number.Post
-put-number-put-digit-requires-2 t c κs = omega (arith, more-size _ (c .before .before .before .before .before .if1 .left))
+put-number-put-digit-requires-2 t c κs = omega (arith, more-size (c .before .before .before .before .before .before .before .args .n) (omega arith))
 
 put-number-same-length-2 : (t : ℕ) → put-number-lts.Need-same-length-2 (
   put-digit-reads.Asked,
@@ -78,7 +78,7 @@ put-number-returns-2 : (t : ℕ) → put-number-lts.Need-returns-2 (
   put-number-below t,
   put-number.Post,
 ) (put-number-at t) put-number.Post
-put-number-returns-2 t c = put-as (decimal-more _ (c .before .before .before .before .before .before .before .before .if1 .left)) (put-then (c .before .before .before .before .before .before .put-number .ensures) (c .before .before .put-digit2 .ensures))
+put-number-returns-2 t c = put-as (decimal-more _ (omega arith)) (put-then (c .before .before .before .before .before .before .put-number .ensures) (c .before .before .put-digit2 .ensures))
 
 pub +put-number-spec : {M : Type 1} → statement M
 +put-number-spec = close μ-put-number λ t. put-number-lts.spec (
