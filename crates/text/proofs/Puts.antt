@@ -2,11 +2,11 @@
 use mathlib.Core.List.{List, [], _∷_, _++_}
 use mathlib.Core.Path.{_≡_, refl, sym, _∙_, ap, ap₂}
 use Prim.Native.Nat.{ℕ, suc, _+_, _≤_, _<_, zero-le}
-use native.Mathlib.Nat.{add-zero, add-suc, suc-add}
+use native.Mathlib.Nat.{zero-add, add-zero, add-suc, suc-add}
 use native.Mathlib.Numerals.{add-one}
 use native.Mathlib.Omega.{arith}
-use lib.ListN.{length, getD, take, set, length-append}
-use lib.Seq.{sets, length-sets, take-suc, take-all}
+use lib.ListN.{length, getD, take, drop, set, length-append}
+use lib.Seq.{sets, sets-eq, length-sets, take-suc, take-all}
 use Rattle.text.specs.Text.{Put}
 
 sets-append : (d : List ℕ) (p : ℕ) (xs ys : List ℕ) → sets (sets d p xs) (p + length xs) ys ≡ sets d p (xs ++ ys)
@@ -32,6 +32,11 @@ put-as {x} {y} {b} {a} {p} {e} s h = rw s at h
 -- a put keeps the buffer's length
 pub put-length : {x b a : List ℕ} {p e : ℕ} → Put x b p a e → length a ≡ length b
 put-length {x} {b} {a} {p} {e} h = ap length (h .is) ∙ length-sets b p x
+
+-- a text put at the start of a buffer stands before the rest of it
+pub put-at-start : {text b a : List ℕ} {e : ℕ} → Put text b 0 a e → e ≤ length b → a ≡ text ++ drop (length text) b
+put-at-start {text} {b} {a} {e} h room =
+    h .is ∙ sets-eq text b 0 (omega (arith, h .ends)) ∙ ap (λ (n : ℕ). text ++ drop n b) (zero-add (length text))
 
 -- one byte more
 pub put-byte : {x b m : List ℕ} {p q : ℕ} (byte : ℕ) → Put x b p m q → Put (x ++ (byte ∷ [])) b p (set m q byte) (q + 1)

@@ -5,14 +5,13 @@ use Prim.Native.Nat.{ℕ, _≤_, _<_}
 use native.Mathlib.Nat.{zero-add}
 use native.Mathlib.Omega.{arith}
 use borrow.Author.Tests.{le-leb, lt-leb}
-use lib.ListN.{length, drop, length-append}
-use lib.Seq.{sets-eq}
+use lib.ListN.{length, length-append}
 use Rattle.rules.specs.Refusals.{Refusal, fileFault, unknownKind, outOfOrder, outOfRange, glnFault, wOutOfRange, missingHour, residualNegative, residualTooLarge, curveTooLarge, spanFault, energyTooLarge, nothingToFollow, periodisedTooLarge, wrongCount, wrongLength, numberOf, Answer, given, refusal, unless, answer, afterwards}
 use Rattle.rules.specs.Statement.{decimal, newline, refusalLine}
 use Rattle.rules.specs.Words.{ascii}
 use Rattle.text.specs.Text.{Put, longestRefusalLine, roomForRefusal, atStart}
 use Rattle.text.proofs.Digits.{decimal-at-most}
-use Rattle.text.proofs.Puts.{put-then, put-as}
+use Rattle.text.proofs.Puts.{put-then, put-as, put-at-start}
 
 two-digits : (r : Refusal) → numberOf r < 100
 two-digits fileFault = omega arith
@@ -57,7 +56,6 @@ module _ (text out : List ℕ) where
   pub has-room : longestRefusalLine ≤ length out → {after : List ℕ} {end : ℕ} → Put text out 0 after end → end ≤ longestRefusalLine
       → Promised text out (given end) after
   unfolding roomForRefusal unless answer afterwards atStart
-  has-room h {after} {end} put within =
-      let size : end ≡ length text = put .ends ∙ zero-add (length text) in
+  has-room h put within =
       rw (le-leb longestRefusalLine (length out) h)
-      (ap given size, put .is ∙ sets-eq text out 0 (omega arith) ∙ ap (λ (n : ℕ). text ++ drop n out) (zero-add (length text)))
+      (ap given (put .ends ∙ zero-add (length text)), put-at-start put (omega arith))

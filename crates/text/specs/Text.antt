@@ -20,11 +20,30 @@ pub record Put (text before : List ℕ) (place : ℕ) (after : List ℕ) (end : 
 abbrev pub mostDigits : ℕ
 mostDigits = 20
 
--- the most bytes of a heading line: its words are 5, 1, 1, 7, 9 and 11 bytes, area and month 3 and 2, four numbers, and the newline
+-- the most bytes of a heading line: "area " 5 and 3, " " 1 and a number, "-" 1 and 2; then " hours " 7, " parties " 9 and " estimated " 11, each with a
+-- number, and the newline
+abbrev pub areaMonthRoom : ℕ
+areaMonthRoom = 32
+
+abbrev pub countsRoom : ℕ
+countsRoom = 88
+
 abbrev pub headingRoom : ℕ
 headingRoom = 120
 
--- the most bytes of a line of columns: a name of at most 13, five times a space and a number, and the newline
+-- the most bytes of a line of columns: a name, a GLN's 13 bytes at most, and two columns of a space and a number; then three columns and the newline
+abbrev pub longestName : ℕ
+longestName = 13
+
+abbrev pub columnRoom : ℕ
+columnRoom = 21
+
+abbrev pub nameEnergiesRoom : ℕ
+nameEnergiesRoom = 55
+
+abbrev pub resultsRoom : ℕ
+resultsRoom = 64
+
 abbrev pub columnsRoom : ℕ
 columnsRoom = 119
 

@@ -10,13 +10,18 @@ ghost use Rattle.answer.specs.Said.{named};
 ghost use Rattle.rules.specs.Refusals.{answer, afterwards};
 ghost use Rattle.rules.specs.Statement.{decimal, signedDecimal, digitsOfWidth, newline, refusalLine, headingText, columnsLine};
 ghost use Rattle.rules.specs.Words.{ascii};
-ghost use Rattle.text.specs.Text.{Put, mostDigits, headingRoom, columnsRoom, longestRefusalLine, roomForRefusal, atStart, told};
+ghost use Rattle.text.specs.Text.{Put, mostDigits, areaMonthRoom, countsRoom, headingRoom, longestName, columnRoom, nameEnergiesRoom, resultsRoom, columnsRoom, longestRefusalLine, roomForRefusal, atStart, told};
 
 // What writing a line into a lent buffer gives: the number of bytes, or the refusal.
 pub enum Written {
     Bytes(usize),
     Refused(Refusal, usize),
 }
+
+// The most bytes of a heading line and of a line of columns, as specs/Text.antt adds them up: a caller lends no less.
+pub const HEADING_ROOM: usize = 120;
+
+pub const COLUMNS_ROOM: usize = 119;
 
 // The most bytes of a refusal line: "refused " 8, its number 2, " at " 4, the place 20 (a place is a number of 64 bits), and the newline 1.
 pub const LONGEST_REFUSAL_LINE: usize = 35;
@@ -112,9 +117,9 @@ fn put_word_width(out: &mut [u8], place: usize, word: &[u8], width: usize, n: u6
 
 // A column: a space, and then a number with its sign.
 fn put_column(out: &mut [u8], place: usize, z: i64) -> usize
-    requires { ⌜ place + 1 + mostDigits ≤ length (now out) ⌝ }
+    requires { ⌜ place + columnRoom ≤ length (now out) ⌝ }
     ensures text { λ end. ⌜ Put (ascii " " ++ signedDecimal z) (now (out .entry)) place (now (out .exit)) end ⌝ }
-    ensures within { λ end. ⌜ end ≤ place + 1 + mostDigits ⌝ }
+    ensures within { λ end. ⌜ end ≤ place + columnRoom ⌝ }
 {
     let number = put_bytes(out, place, b" ");
     put_signed(out, number, z)
@@ -122,9 +127,9 @@ fn put_column(out: &mut [u8], place: usize, z: i64) -> usize
 
 // "area (three digits), year-month"
 fn put_area_month(out: &mut [u8], place: usize, area: u64, year: u64, month: u64) -> usize
-    requires { ⌜ place + 32 ≤ length (now out) ⌝ }
+    requires { ⌜ place + areaMonthRoom ≤ length (now out) ⌝ }
     ensures text { λ end. ⌜ Put (ascii "area " ++ digitsOfWidth 3 area ++ ascii " " ++ decimal year ++ ascii "-" ++ digitsOfWidth 2 month) (now (out .entry)) place (now (out .exit)) end ⌝ }
-    ensures within { λ end. ⌜ end ≤ place + 32 ⌝ }
+    ensures within { λ end. ⌜ end ≤ place + areaMonthRoom ⌝ }
 {
     let after_area = put_word_width(out, place, b"area ", 3, area);
     let after_year = put_word_number(out, after_area, b" ", year);
@@ -133,9 +138,9 @@ fn put_area_month(out: &mut [u8], place: usize, area: u64, year: u64, month: u64
 
 // "H, P and the number of applied hours with status 2", and the newline
 fn put_counts(out: &mut [u8], place: usize, hours: u64, parties: u64, estimated: u64) -> usize
-    requires { ⌜ place + 88 ≤ length (now out) ⌝ }
+    requires { ⌜ place + countsRoom ≤ length (now out) ⌝ }
     ensures text { λ end. ⌜ Put (ascii " hours " ++ decimal hours ++ ascii " parties " ++ decimal parties ++ ascii " estimated " ++ decimal estimated ++ newline) (now (out .entry)) place (now (out .exit)) end ⌝ }
-    ensures within { λ end. ⌜ end ≤ place + 88 ⌝ }
+    ensures within { λ end. ⌜ end ≤ place + countsRoom ⌝ }
 {
     let after_hours = put_word_number(out, place, b" hours ", hours);
     let after_parties = put_word_number(out, after_hours, b" parties ", parties);
@@ -170,9 +175,9 @@ fn put_name_energies(
     distributed_wh: i64,
     periodised_wh: u64,
 ) -> usize
-    requires { ⌜ (length (now name) ≤ 13) × (place + 55 ≤ length (now out)) ⌝ }
+    requires { ⌜ (length (now name) ≤ longestName) × (place + nameEnergiesRoom ≤ length (now out)) ⌝ }
     ensures text { λ end. ⌜ Put (now (name .entry) ++ ascii " " ++ signedDecimal «distributed_wh» ++ ascii " " ++ decimal «periodised_wh») (now (out .entry)) place (now (out .exit)) end ⌝ }
-    ensures within { λ end. ⌜ end ≤ place + 55 ⌝ }
+    ensures within { λ end. ⌜ end ≤ place + nameEnergiesRoom ⌝ }
 {
     let after_name = put_bytes(out, place, name);
     let after_distributed = put_column(out, after_name, distributed_wh);
@@ -181,9 +186,9 @@ fn put_name_energies(
 
 // The last columns: "loss, difference .. and invoice øre", and the newline
 fn put_results(out: &mut [u8], place: usize, loss_wh: i64, difference_wh: i64, ore: i64) -> usize
-    requires { ⌜ place + 64 ≤ length (now out) ⌝ }
+    requires { ⌜ place + resultsRoom ≤ length (now out) ⌝ }
     ensures text { λ end. ⌜ Put (ascii " " ++ signedDecimal «loss_wh» ++ ascii " " ++ signedDecimal «difference_wh» ++ ascii " " ++ signedDecimal ore ++ newline) (now (out .entry)) place (now (out .exit)) end ⌝ }
-    ensures within { λ end. ⌜ end ≤ place + 64 ⌝ }
+    ensures within { λ end. ⌜ end ≤ place + resultsRoom ⌝ }
 {
     let after_loss = put_column(out, place, loss_wh);
     let after_difference = put_column(out, after_loss, difference_wh);
@@ -202,7 +207,7 @@ pub fn columns_line(
     difference_wh: i64,
     ore: i64,
 ) -> usize
-    requires { ⌜ (length (now name) ≤ 13) × (place + columnsRoom ≤ length (now out)) ⌝ }
+    requires { ⌜ (length (now name) ≤ longestName) × (place + columnsRoom ≤ length (now out)) ⌝ }
     ensures text { λ end. ⌜ Put (columnsLine (now (name .entry)) «distributed_wh» «periodised_wh» «loss_wh» «difference_wh» ore) (now (out .entry)) place (now (out .exit)) end ⌝ }
     ensures within { λ end. ⌜ end ≤ place + columnsRoom ⌝ }
 {
