@@ -39,17 +39,20 @@ unfoldable pub refusalLine : Refusal → ℕ → List ℕ
 refusalLine r place = ascii "refused " ++ decimal (numberOf r) ++ ascii " at " ++ decimal place ++ newline
 
 -- "a heading line with area (three digits), year-month, H, P and the number of applied hours with status 2"
+unfoldable pub headingText : ℕ → ℕ → ℕ → ℕ → ℕ → ℕ → List ℕ
+headingText area year month hours parties estimated =
+    ascii "area " ++ digitsOfWidth 3 area ++ ascii " " ++ decimal year ++ ascii "-" ++ digitsOfWidth 2 month
+    ++ ascii " hours "
+    ++ decimal hours
+    ++ ascii " parties "
+    ++ decimal parties
+    ++ ascii " estimated "
+    ++ decimal estimated
+    ++ newline
+
 unfoldable pub headingLine : MonthFile → List ℕ
 headingLine m =
-    ascii "area " ++ digitsOfWidth 3 (m .heading .area) ++ ascii " " ++ decimal (m .heading .year) ++ ascii "-"
-    ++ digitsOfWidth 2 (m .heading .month)
-    ++ ascii " hours "
-    ++ decimal (H m)
-    ++ ascii " parties "
-    ++ decimal (P m)
-    ++ ascii " estimated "
-    ++ decimal (estimatedHours m)
-    ++ newline
+    headingText (m .heading .area) (m .heading .year) (m .heading .month) (H m) (P m) (estimatedHours m)
 
 -- a line of five columns: "distributed, periodised, loss, difference (month sums in Wh) and invoice øre"
 unfoldable pub columnsLine : List ℕ → ℤ → ℕ → ℤ → ℤ → ℤ → List ℕ

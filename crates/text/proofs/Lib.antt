@@ -1,0 +1,6 @@
+pub mod Puts
+pub mod Digits
+pub mod Signs
+pub mod Lines
+pub mod RefusalLine
+pub mod Unique

@@ -1,0 +1,21 @@
+-- `text::heading_line` meets its contract: its two halves, one after the other. Assumes nothing.
+use Rattle.text.proofs.Lines.{heading}
+use borrow.Author.Needs.{needs}
+use Rattle.text.proofs.heading_line.Statement.{statement}
+use Rattle.text.proofs.heading_line.Tie as tie
+
+put-area-month-requires : tie.Need-put-area-month-requires
+put-area-month-requires c κs = search needs
+
+put-counts-requires : tie.Need-put-counts-requires
+put-counts-requires c κs = search needs
+
+same-length : tie.Need-same-length
+same-length c = search needs
+
+returns : tie.Need-returns
+returns c = (heading _ _ _ _ _ _ (c .before .before .before .before .before .before .put-area-month .ensures .0) (c .before .before .put-counts .ensures .0), search needs)
+
+pub heading-line-spec : {M : Type 1} → statement M
+heading-line-spec =
+    tie.close (tie.spec put-area-month-requires put-counts-requires same-length returns)

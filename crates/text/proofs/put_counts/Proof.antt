@@ -1,0 +1,53 @@
+-- `text::put_counts` meets its contract: each word and its number after the one before, and the newline. Assumes nothing.
+use Rattle.rules.specs.Words.{ascii}
+use Rattle.rules.specs.Statement.{newline}
+use Rattle.text.proofs.Lines.{counts}
+use borrow.Author.Needs.{needs}
+use Rattle.text.proofs.put_counts.Statement.{statement}
+use Rattle.text.proofs.put_counts.Tie as tie
+
+slice-aggregate-put-word-number : tie.Need-slice-aggregate-put-word-number
+slice-aggregate-put-word-number c = search needs
+
+put-word-number-requires : tie.Need-put-word-number-requires
+put-word-number-requires c κs = search needs
+
+slice-aggregate-put-word-number-2 : tie.Need-slice-aggregate-put-word-number-2
+slice-aggregate-put-word-number-2 c = search needs
+
+put-word-number-requires-2 : tie.Need-put-word-number-requires-2
+put-word-number-requires-2 c κs = search needs
+
+slice-aggregate-put-word-number-3 : tie.Need-slice-aggregate-put-word-number-3
+slice-aggregate-put-word-number-3 c = search needs
+
+put-word-number-requires-3 : tie.Need-put-word-number-requires-3
+put-word-number-requires-3 c κs = search needs
+
+slice-aggregate-put-bytes : tie.Need-slice-aggregate-put-bytes
+slice-aggregate-put-bytes c = search needs
+
+put-bytes-requires : tie.Need-put-bytes-requires
+put-bytes-requires c κs = search needs
+
+same-length : tie.Need-same-length
+same-length c = search needs
+
+returns : tie.Need-returns
+unfolding ascii newline
+returns c = (counts _ _ _ (c .before .before .before .before .before .before .before .before .before .before .before .before .before .before .before .before .before .put-word-number .ensures .0) (c .before .before .before .before .before .before .before .before .before .before .before .before .put-word-number2 .ensures .0) (c .before .before .before .before .before .before .before .put-word-number3 .ensures .0) (c .before .before .put-bytes .ensures), search needs)
+
+pub put-counts-spec : {M : Type 1} → statement M
+put-counts-spec =
+    tie.close
+    (tie.spec
+    slice-aggregate-put-word-number
+    put-word-number-requires
+    slice-aggregate-put-word-number-2
+    put-word-number-requires-2
+    slice-aggregate-put-word-number-3
+    put-word-number-requires-3
+    slice-aggregate-put-bytes
+    put-bytes-requires
+    same-length
+    returns)

@@ -1,0 +1,40 @@
+-- `text::put_results` meets its contract: three columns and the newline. Assumes nothing.
+use Rattle.rules.specs.Statement.{newline}
+use Rattle.text.proofs.Lines.{results}
+use borrow.Author.Needs.{needs}
+use Rattle.text.proofs.put_results.Statement.{statement}
+use Rattle.text.proofs.put_results.Tie as tie
+
+put-column-requires : tie.Need-put-column-requires
+put-column-requires c κs = search needs
+
+put-column-requires-2 : tie.Need-put-column-requires-2
+put-column-requires-2 c κs = search needs
+
+put-column-requires-3 : tie.Need-put-column-requires-3
+put-column-requires-3 c κs = search needs
+
+slice-aggregate-put-bytes : tie.Need-slice-aggregate-put-bytes
+slice-aggregate-put-bytes c = search needs
+
+put-bytes-requires : tie.Need-put-bytes-requires
+put-bytes-requires c κs = search needs
+
+same-length : tie.Need-same-length
+same-length c = search needs
+
+returns : tie.Need-returns
+unfolding newline
+returns c = (results (c .before .before .before .before .before .before .before .before .before .before .before .before .before .before .before .before .before .before .fits .loss-wh) (c .before .before .before .before .before .before .before .before .before .before .before .before .before .before .before .before .before .before .fits .difference-wh) (c .before .before .before .before .before .before .before .before .before .before .before .before .before .before .before .before .before .before .fits .ore) (c .before .before .before .before .before .before .before .before .before .before .before .before .before .before .before .put-column .ensures .0) (c .before .before .before .before .before .before .before .before .before .before .before .put-column2 .ensures .0) (c .before .before .before .before .before .before .before .put-column3 .ensures .0) (c .before .before .put-bytes .ensures), search needs)
+
+pub put-results-spec : {M : Type 1} → statement M
+put-results-spec =
+    tie.close
+    (tie.spec
+    put-column-requires
+    put-column-requires-2
+    put-column-requires-3
+    slice-aggregate-put-bytes
+    put-bytes-requires
+    same-length
+    returns)

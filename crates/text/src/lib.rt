@@ -1,0 +1,240 @@
+// The lines of the statement as bytes in a lent buffer (01 "The statement program"): the heading line, a line of columns for each party and for the total,
+// and the refusal line. Each function writes from a place on and answers the place after what it wrote.
+use answer::Refusal;
+ghost use mathlib.Core.List.{_∷_, [], _++_};
+ghost use mathlib.Core.Path.{_≡_};
+ghost use Prim.Native.Nat.{_+_, _%_, _≤_, _<_};
+ghost use lib.IntN.{natAbs};
+ghost use lib.ListN.{length};
+ghost use Rattle.answer.specs.Said.{named};
+ghost use Rattle.rules.specs.Refusals.{answer, afterwards};
+ghost use Rattle.rules.specs.Statement.{decimal, signedDecimal, digitsOfWidth, newline, refusalLine, headingText, columnsLine};
+ghost use Rattle.rules.specs.Words.{ascii};
+ghost use Rattle.text.specs.Text.{Put, mostDigits, areaMonthRoom, countsRoom, headingRoom, longestName, columnRoom, nameEnergiesRoom, resultsRoom, columnsRoom, longestRefusalLine, roomForRefusal, atStart, told};
+
+// What writing a line into a lent buffer gives: the number of bytes, or the refusal.
+pub enum Written {
+    Bytes(usize),
+    Refused(Refusal, usize),
+}
+
+// The most bytes of a heading line and of a line of columns, as specs/Text.antt adds them up: a caller lends no less.
+pub const HEADING_ROOM: usize = 120;
+
+pub const COLUMNS_ROOM: usize = 119;
+
+// The most bytes of a refusal line: "refused " 8, its number 2, " at " 4, the place 20 (a place is a number of 64 bits), and the newline 1.
+pub const LONGEST_REFUSAL_LINE: usize = 35;
+
+// The last digit of a number.
+fn put_digit(out: &mut [u8], place: usize, n: u64) -> usize
+    requires { ⌜ place < length (now out) ⌝ }
+    ensures { λ end. ⌜ Put ((48 + n % 10) ∷ []) (now (out .entry)) place (now (out .exit)) end ⌝ }
+{
+    out[place] = b'0' + (n % 10) as u8;
+    place + 1
+}
+
+// "Numbers are printed without leading zeros, most significant digit first": the number divided by ten, then its last digit.
+pub fn put_number(out: &mut [u8], place: usize, n: u64) -> usize
+    requires { ⌜ place + length (decimal n) ≤ length (now out) ⌝ }
+    ensures { λ end. ⌜ Put (decimal n) (now (out .entry)) place (now (out .exit)) end ⌝ }
+{
+    if n < 10 {
+        return put_digit(out, place, n);
+    }
+    let last = put_number(out, place, n / 10);
+    put_digit(out, last, n)
+}
+
+// "area (3 digits), month (2) .. keep theirs": so many digits, zeros before the number.
+fn put_width(out: &mut [u8], place: usize, width: usize, n: u64) -> usize
+    requires { ⌜ place + width ≤ length (now out) ⌝ }
+    ensures { λ end. ⌜ Put (digitsOfWidth width n) (now (out .entry)) place (now (out .exit)) end ⌝ }
+{
+    if width < 1 {
+        return place;
+    }
+    let units = put_width(out, place, width - 1, n / 10);
+    put_digit(out, units, n)
+}
+
+// Bytes as they are.
+fn put_bytes(out: &mut [u8], place: usize, text: &[u8]) -> usize
+    requires { ⌜ place + length (now text) ≤ length (now out) ⌝ }
+    ensures { λ end. ⌜ Put (now (text .entry)) (now (out .entry)) place (now (out .exit)) end ⌝ }
+{
+    let mut i: usize = 0;
+    while i < text.len() {
+        out[place + i] = text[i];
+        i += 1;
+    }
+    place + i
+}
+
+// The size of a number without its sign; -1 - z is one less than that of a negative z, and fits for every z.
+fn size(signed: i64) -> u64
+    ensures { λ n. ⌜ n ≡ natAbs signed ⌝ }
+{
+    if signed < 0 {
+        return (-1 - signed) as u64 + 1;
+    }
+    signed as u64
+}
+
+// "a minus before negatives", and none before 0
+fn put_signed(out: &mut [u8], place: usize, z: i64) -> usize
+    requires { ⌜ place + mostDigits ≤ length (now out) ⌝ }
+    ensures text { λ end. ⌜ Put (signedDecimal z) (now (out .entry)) place (now (out .exit)) end ⌝ }
+    ensures within { λ end. ⌜ end ≤ place + mostDigits ⌝ }
+{
+    let n = size(z);
+    if z < 0 {
+        let digits = put_bytes(out, place, b"-");
+        return put_number(out, digits, n);
+    }
+    put_number(out, place, n)
+}
+
+// A word, and then a number: as it is, or with so many digits.
+fn put_word_number(out: &mut [u8], place: usize, word: &[u8], n: u64) -> usize
+    requires { ⌜ place + length (now word) + mostDigits ≤ length (now out) ⌝ }
+    ensures text { λ end. ⌜ Put (now (word .entry) ++ decimal n) (now (out .entry)) place (now (out .exit)) end ⌝ }
+    ensures within { λ end. ⌜ end ≤ place + length (now (word .entry)) + mostDigits ⌝ }
+{
+    let digits = put_bytes(out, place, word);
+    put_number(out, digits, n)
+}
+
+fn put_word_width(out: &mut [u8], place: usize, word: &[u8], width: usize, n: u64) -> usize
+    requires { ⌜ place + length (now word) + width ≤ length (now out) ⌝ }
+    ensures text { λ end. ⌜ Put (now (word .entry) ++ digitsOfWidth width n) (now (out .entry)) place (now (out .exit)) end ⌝ }
+    ensures within { λ end. ⌜ end ≤ place + length (now (word .entry)) + width ⌝ }
+{
+    let digits = put_bytes(out, place, word);
+    put_width(out, digits, width, n)
+}
+
+// A column: a space, and then a number with its sign.
+fn put_column(out: &mut [u8], place: usize, z: i64) -> usize
+    requires { ⌜ place + columnRoom ≤ length (now out) ⌝ }
+    ensures text { λ end. ⌜ Put (ascii " " ++ signedDecimal z) (now (out .entry)) place (now (out .exit)) end ⌝ }
+    ensures within { λ end. ⌜ end ≤ place + columnRoom ⌝ }
+{
+    let number = put_bytes(out, place, b" ");
+    put_signed(out, number, z)
+}
+
+// "area (three digits), year-month"
+fn put_area_month(out: &mut [u8], place: usize, area: u64, year: u64, month: u64) -> usize
+    requires { ⌜ place + areaMonthRoom ≤ length (now out) ⌝ }
+    ensures text { λ end. ⌜ Put (ascii "area " ++ digitsOfWidth 3 area ++ ascii " " ++ decimal year ++ ascii "-" ++ digitsOfWidth 2 month) (now (out .entry)) place (now (out .exit)) end ⌝ }
+    ensures within { λ end. ⌜ end ≤ place + areaMonthRoom ⌝ }
+{
+    let after_area = put_word_width(out, place, b"area ", 3, area);
+    let after_year = put_word_number(out, after_area, b" ", year);
+    put_word_width(out, after_year, b"-", 2, month)
+}
+
+// "H, P and the number of applied hours with status 2", and the newline
+fn put_counts(out: &mut [u8], place: usize, hours: u64, parties: u64, estimated: u64) -> usize
+    requires { ⌜ place + countsRoom ≤ length (now out) ⌝ }
+    ensures text { λ end. ⌜ Put (ascii " hours " ++ decimal hours ++ ascii " parties " ++ decimal parties ++ ascii " estimated " ++ decimal estimated ++ newline) (now (out .entry)) place (now (out .exit)) end ⌝ }
+    ensures within { λ end. ⌜ end ≤ place + countsRoom ⌝ }
+{
+    let after_hours = put_word_number(out, place, b" hours ", hours);
+    let after_parties = put_word_number(out, after_hours, b" parties ", parties);
+    let after_estimated = put_word_number(out, after_parties, b" estimated ", estimated);
+    put_bytes(out, after_estimated, b"\n")
+}
+
+// THE HEADING LINE: "a heading line with area (three digits), year-month, H, P and the number of applied hours with status 2"
+pub fn heading_line(
+    out: &mut [u8],
+    place: usize,
+    area: u16,
+    year: u16,
+    month: u8,
+    hours: u16,
+    parties: u8,
+    estimated: usize,
+) -> usize
+    requires { ⌜ place + headingRoom ≤ length (now out) ⌝ }
+    ensures text { λ end. ⌜ Put (headingText area year month hours parties estimated) (now (out .entry)) place (now (out .exit)) end ⌝ }
+    ensures within { λ end. ⌜ end ≤ place + headingRoom ⌝ }
+{
+    let counts = put_area_month(out, place, area as u64, year as u64, month as u64);
+    put_counts(out, counts, hours as u64, parties as u64, estimated as u64)
+}
+
+// The first columns: "GLN, distributed, periodised"
+fn put_name_energies(
+    out: &mut [u8],
+    place: usize,
+    name: &[u8],
+    distributed_wh: i64,
+    periodised_wh: u64,
+) -> usize
+    requires { ⌜ (length (now name) ≤ longestName) × (place + nameEnergiesRoom ≤ length (now out)) ⌝ }
+    ensures text { λ end. ⌜ Put (now (name .entry) ++ ascii " " ++ signedDecimal «distributed_wh» ++ ascii " " ++ decimal «periodised_wh») (now (out .entry)) place (now (out .exit)) end ⌝ }
+    ensures within { λ end. ⌜ end ≤ place + nameEnergiesRoom ⌝ }
+{
+    let after_name = put_bytes(out, place, name);
+    let after_distributed = put_column(out, after_name, distributed_wh);
+    put_word_number(out, after_distributed, b" ", periodised_wh)
+}
+
+// The last columns: "loss, difference .. and invoice øre", and the newline
+fn put_results(out: &mut [u8], place: usize, loss_wh: i64, difference_wh: i64, ore: i64) -> usize
+    requires { ⌜ place + resultsRoom ≤ length (now out) ⌝ }
+    ensures text { λ end. ⌜ Put (ascii " " ++ signedDecimal «loss_wh» ++ ascii " " ++ signedDecimal «difference_wh» ++ ascii " " ++ signedDecimal ore ++ newline) (now (out .entry)) place (now (out .exit)) end ⌝ }
+    ensures within { λ end. ⌜ end ≤ place + resultsRoom ⌝ }
+{
+    let after_loss = put_column(out, place, loss_wh);
+    let after_difference = put_column(out, after_loss, difference_wh);
+    let after_ore = put_column(out, after_difference, ore);
+    put_bytes(out, after_ore, b"\n")
+}
+
+// A LINE OF COLUMNS, of a party by its GLN or of the total by that word: "distributed, periodised, loss, difference (month sums in Wh) and invoice øre"
+pub fn columns_line(
+    out: &mut [u8],
+    place: usize,
+    name: &[u8],
+    distributed_wh: i64,
+    periodised_wh: u64,
+    loss_wh: i64,
+    difference_wh: i64,
+    ore: i64,
+) -> usize
+    requires { ⌜ (length (now name) ≤ longestName) × (place + columnsRoom ≤ length (now out)) ⌝ }
+    ensures text { λ end. ⌜ Put (columnsLine (now (name .entry)) «distributed_wh» «periodised_wh» «loss_wh» «difference_wh» ore) (now (out .entry)) place (now (out .exit)) end ⌝ }
+    ensures within { λ end. ⌜ end ≤ place + columnsRoom ⌝ }
+{
+    let results = put_name_energies(out, place, name, distributed_wh, periodised_wh);
+    put_results(out, results, loss_wh, difference_wh, ore)
+}
+
+// The refusal line at the start of a buffer that has room for the longest.
+fn put_refusal(refusal: Refusal, place: usize, out: &mut [u8]) -> usize
+    requires { ⌜ longestRefusalLine ≤ length (now out) ⌝ }
+    ensures text { λ end. ⌜ Put (refusalLine (named refusal) place) (now (out .entry)) 0 (now (out .exit)) end ⌝ }
+    ensures within { λ end. ⌜ end ≤ longestRefusalLine ⌝ }
+{
+    let number = answer::number(refusal) as u64;
+    let after_number = put_word_number(out, 0, b"refused ", number);
+    let after_place = put_word_number(out, after_number, b" at ", place as u64);
+    put_bytes(out, after_place, b"\n")
+}
+
+// THE REFUSAL LINE: "On refusal it prints one line, `refused N at P`." It stands at the start of the lent buffer, and the bytes after it are kept; a buffer
+// too short for the longest refusal line is refused with 16.
+pub fn refusal_line(refusal: Refusal, place: usize, out: &mut [u8]) -> Written
+    ensures answer { λ w. ⌜ told w ≡ answer (roomForRefusal (now (out .entry))) (length (refusalLine (named refusal) place)) ⌝ }
+    ensures contents { λ w. ⌜ now (out .exit) ≡ afterwards (roomForRefusal (now (out .entry))) (atStart (refusalLine (named refusal) place) (now (out .entry))) (now (out .entry)) ⌝ }
+{
+    if out.len() < LONGEST_REFUSAL_LINE {
+        return Written::Refused(Refusal::WrongLength, 0);
+    }
+    Written::Bytes(put_refusal(refusal, place, out))
+}
