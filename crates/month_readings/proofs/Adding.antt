@@ -60,10 +60,16 @@ module _ {r : Reading} {curve beginnings : List ℕ} {start hours : ℕ} {out : 
         (λ (g : end ≤ start + k). none-after (at curve) r (start + k) (omega arith)) out-of
 
     -- a place of the window lies outside the part, and there is no figure for it, or it is the party's own, in an hour of the part
-    placed : (i k : ℕ) → k < hours → ((figureTo (at curve) r i (start + k) ≡ 0) × ((i * hours + k < low) ⊎ (high ≤ i * hours + k))) ⊎ ((i ≡ r .party) × (begin ≤ start + k) × (start + k < end))
+    abbrev Outside : ℕ → ℕ → Type 0
+    Outside i k = (figureTo (at curve) r i (start + k) ≡ 0) × ((i * hours + k < low) ⊎ (high ≤ i * hours + k))
+
+    abbrev Inside : ℕ → ℕ → Type 0
+    Inside i k = (i ≡ r .party) × (begin ≤ start + k) × (start + k < end)
+
+    placed : (i k : ℕ) → k < hours → Outside i k ⊎ Inside i k
     placed i k b = go (eqb (r .party) i) refl
       where
-        own : i ≡ r .party → ((figureTo (at curve) r i (start + k) ≡ 0) × ((i * hours + k < low) ⊎ (high ≤ i * hours + k))) ⊎ ((i ≡ r .party) × (begin ≤ start + k) × (start + k < end))
+        own : i ≡ r .party → Outside i k ⊎ Inside i k
         own e =
             let same : i * hours ≡ r .party * hours = ap (λ (x : ℕ). x * hours) e in
             ⊎-elim
@@ -90,7 +96,7 @@ module _ {r : Reading} {curve beginnings : List ℕ} {start hours : ℕ} {out : 
             (eq-or-lt-of-le (g .0)))
             (less-cases i (r .party))
 
-        go : (x : Bool) → eqb (r .party) i ≡ x → ((figureTo (at curve) r i (start + k) ≡ 0) × ((i * hours + k < low) ⊎ (high ≤ i * hours + k))) ⊎ ((i ≡ r .party) × (begin ≤ start + k) × (start + k < end))
+        go : (x : Bool) → eqb (r .party) i ≡ x → Outside i k ⊎ Inside i k
         go true e = own (sym (eqb-true (r .party) i e))
         go false e = inl (to-another (at curve) r i (start + k) e, another e)
 
@@ -100,8 +106,8 @@ module _ {r : Reading} {curve beginnings : List ℕ} {start hours : ℕ} {out : 
         record {
           size = refl;
           each = λ i k b.
-              ⊎-elim (λ (o : (figureTo (at curve) r i (start + k) ≡ 0) × _). omega (arith, o .0))
-              (λ (p : (i ≡ r .party) × (begin ≤ start + k) × (start + k < end)). absurd (omega (arith, p .1, p .2)))
+              ⊎-elim (λ (o : Outside i k). omega (arith, o .0))
+              (λ (p : Inside i k). absurd (omega (arith, p .1, p .2)))
               (placed i k b);
         }
 
@@ -186,13 +192,13 @@ module _ {r : Reading} {curve beginnings : List ℕ} {start hours : ℕ} {out : 
               size = same-len-mid low (high - low) out ys (as-many ∙ sym places-of-part);
               each = λ i k b.
                   ⊎-elim
-                  (λ (o : (figureTo (at curve) r i (start + k) ≡ 0) × ((i * hours + k < low) ⊎ (high ≤ i * hours + k))).
+                  (λ (o : Outside i k).
                   ⊎-elim
                   (λ (l : i * hours + k < low).
                   omega (arith, o .0, before-part low high out ys (omega arith) (omega (arith, t .places)) as-many (i * hours + k) l))
                   (λ (g : high ≤ i * hours + k).
                   omega (arith, o .0, after-part low high out ys (omega arith) (omega (arith, t .places)) as-many (i * hours + k) g))
                   (o .1))
-                  (λ (p : (i ≡ r .party) × (begin ≤ start + k) × (start + k < end)). inside-part i k (p .0) (p .1) (p .2))
+                  (λ (p : Inside i k). inside-part i k (p .0) (p .1) (p .2))
                   (placed i k b);
             }

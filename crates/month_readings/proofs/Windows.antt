@@ -111,10 +111,10 @@ module _ {file : List ℕ} {s : Sections} {numbers beginnings : List ℕ} {start
         each = λ i k b c. ap (λ (l : List ℕ). at l (i * hours + k)) e ∙ figures-at lent noWh (i * hours + k) 0 (omega (arith, a .size, party-places b));
       }
 
-  module _ {out : List ℕ} {j : ℕ} (n : Counted m start hours out j) where
-    pub reading-asked : j < s .readings → ReadingAsked file s j
-    reading-asked b = record { accepted = a .accepted; number = b }
+  pub reading-asked : {j : ℕ} → j < s .readings → ReadingAsked file s j
+  reading-asked b = record { accepted = a .accepted; number = b }
 
+  module _ {out : List ℕ} {j : ℕ} (n : Counted m start hours out j) where
     module _ (b : j < s .readings) {x : CReading.Reading} (read : ReadingIs file j x) where
       is : readingOf x ≡ readingAt m j
       is = reading-read file s (a .accepted) read

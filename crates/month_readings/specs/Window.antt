@@ -1,6 +1,6 @@
--- The periodised consumption of all parties in a window of hours (01 "Periodised consumption"; H2 6.2). "None of its buffers is larger than 64 KiB" (01 "The statement
--- program"), so a month's hours go in windows. A reading costs only its own hours in a window: what it weighs before them is a difference of two beginnings
--- of the curve.
+-- The periodised consumption of all parties in a window of hours (01 "Periodised consumption"; H2 6.2). "None of its buffers is larger than 64 KiB" (01 "The
+-- statement program"), so a month's hours go in windows. A reading costs only its own hours in a window: what it weighs before them is a difference of two
+-- beginnings of the curve.
 use mathlib.Core.Bool.{cond, _&&_}
 use mathlib.Core.List.{List}
 use mathlib.Core.Path.{_≡_}

@@ -20,7 +20,7 @@ loop-holds : tie.Need-loop-holds Inv-loop μ-loop
 loop-holds c = counted-start (c .before .before .before .before .before .before .before .before .pre) (c .before .before .clear .ensures)
 
 reading-requires : tie.Need-reading-requires Inv-loop μ-loop
-reading-requires c κs = reading-asked (c .before .before .before .before .before .before .before .before .before .before .pre) (c .before .loop .inv) (c .loop-test .taken)
+reading-requires c κs = reading-asked (c .before .before .before .before .before .before .before .before .before .before .pre) (omega arith)
 
 add-reading-requires : tie.Need-add-reading-requires Inv-loop μ-loop
 add-reading-requires c κs = taken (c .before .before .before .before .before .before .before .before .before .before .before .before .pre) (c .before .before .before .loop .inv) (c .before .before .loop-test .taken) (c .before .reading .ensures)
