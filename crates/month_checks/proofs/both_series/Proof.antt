@@ -1,77 +1,60 @@
+-- `month_checks::both_series` meets its contract: the fixed hours decide first, then the refixed ones. Assumes nothing.
+use native.Mathlib.Nat.{pos-of-ne-zero}
+use Rattle.month_checks.proofs.Hours.{fixed-refused, refixed-refused, fixed-applied, refixed-applied}
 use borrow.Author.Needs.{needs}
 use Rattle.month_checks.proofs.both_series.Statement.{statement}
 use Rattle.month_checks.proofs.both_series.Tie as tie
-use Rattle.month_checks.proofs.both_series.Reads as reads
-use Rattle.month_checks.proofs.both_series.Lts as lts
-use Rattle.month_series.proofs.hours.Reads as hours-reads
 
--- src/lib.rt:29:9
 hours-requires : tie.Need-hours-requires
-hours-requires c κs = ?
+hours-requires c κs = search needs
 
--- src/lib.rt:30:25
 enum-known-by-fixed : tie.Need-enum-known-by-fixed
-enum-known-by-fixed c = ?
+enum-known-by-fixed c = search needs
 
--- src/lib.rt:31:9
 enum-told : tie.Need-enum-told
-enum-told c = ?
+enum-told c = search needs
 
--- src/lib.rt:31:9
 same-length : tie.Need-same-length
-same-length c = ?
+same-length c = search needs
 
--- src/lib.rt:31:9
 returns : tie.Need-returns
-returns c = ?
+returns c = fixed-refused _ _ (c .before .before .before .before .before .before .before .before .before .pre .accepted) (c .before .before .before .before .hours .ensures) (c .enum-told .given .1) _
 
--- src/lib.rt:33:9
 hours-requires-2 : tie.Need-hours-requires-2
-hours-requires-2 c κs = ?
+hours-requires-2 c κs = search needs
 
--- src/lib.rt:34:25
 enum-known-by-refixed : tie.Need-enum-known-by-refixed
-enum-known-by-refixed c = ?
+enum-known-by-refixed c = search needs
 
--- src/lib.rt:35:9
 enum-told-2 : tie.Need-enum-told-2
-enum-told-2 c = ?
+enum-told-2 c = search needs
 
--- src/lib.rt:35:9
 same-length-2 : tie.Need-same-length-2
-same-length-2 c = ?
+same-length-2 c = search needs
 
--- src/lib.rt:35:9
 same-length-3 : tie.Need-same-length-3
-same-length-3 c = ?
+same-length-3 c = search needs
 
--- src/lib.rt:35:9
 returns-2 : tie.Need-returns-2
-returns-2 c = ?
+returns-2 c = refixed-refused _ _ (c .before .before .before .before .before .before .before .before .before .before .before .before .before .before .before .before .pre .accepted) (c .before .before .before .before .before .before .before .before .before .before .before .hours .ensures) (c .before .before .before .before .before .before .before .by-fixed .given .1) (c .before .before .before .before .hours2 .ensures) (c .enum-told2 .given .1)
 
--- src/lib.rt:38:9
 same-length-4 : tie.Need-same-length-4
-same-length-4 c = ?
+same-length-4 c = search needs
 
--- src/lib.rt:38:9
 same-length-5 : tie.Need-same-length-5
-same-length-5 c = ?
+same-length-5 c = search needs
 
--- src/lib.rt:38:9
 returns-3 : tie.Need-returns-3
-returns-3 c = ?
+returns-3 c = fixed-applied _ _ (c .before .before .before .before .before .before .before .before .before .before .before .before .before .before .before .before .before .before .before .pre .accepted) (c .before .before .before .before .before .before .before .before .before .before .before .before .before .before .hours .ensures) (c .before .before .before .before .before .before .before .before .before .before .by-fixed .given .1) (c .before .before .before .before .before .before .before .hours2 .ensures) (c .before .before .before .by-refixed .given .1) (c .if1 .taken)
 
--- src/lib.rt:25:1
 same-length-6 : tie.Need-same-length-6
-same-length-6 c = ?
+same-length-6 c = search needs
 
--- src/lib.rt:25:1
 same-length-7 : tie.Need-same-length-7
-same-length-7 c = ?
+same-length-7 c = search needs
 
--- src/lib.rt:25:1
 returns-4 : tie.Need-returns-4
-returns-4 c = ?
+returns-4 c = refixed-applied _ _ (c .before .before .before .before .before .before .before .before .before .before .before .before .before .before .before .before .before .before .before .pre .accepted) (c .before .before .before .before .before .before .before .before .before .before .before .before .before .before .hours .ensures) (c .before .before .before .before .before .before .before .before .before .before .by-fixed .given .1) (c .before .before .before .before .before .before .before .hours2 .ensures) (c .before .before .before .by-refixed .given .1) (pos-of-ne-zero (c .if1 .left))
 
 pub both-series-spec : {M : Type 1} → statement M
 both-series-spec =
