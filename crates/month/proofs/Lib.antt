@@ -1,0 +1,3 @@
+pub mod OneWindow
+pub mod AllWindows
+pub mod Chain

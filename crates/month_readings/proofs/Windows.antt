@@ -5,7 +5,7 @@ use mathlib.Core.List.{List}
 use mathlib.Core.Logic.{⊎-elim}
 use mathlib.Core.Path.{_≡_, refl, sym, _∙_, ap, ap₂, subst}
 use Prim.Native.Nat.{ℕ, suc, _+_, _-_, _*_, _≤_, _<_, zero-le}
-use native.Mathlib.Nat.{le-trans, mul-le-mul-right, eq-zero-or-pos}
+use native.Mathlib.Nat.{le-refl, le-trans, mul-le-mul-right, eq-zero-or-pos}
 use native.Mathlib.Numerals.{add-one}
 use native.Mathlib.Omega.{arith}
 use lib.Dec.{eqb}
@@ -100,6 +100,13 @@ module _ {file : List ℕ} {s : Sections} {numbers beginnings : List ℕ} {start
   small t i j b =
       sum-bound j (figureFor m t i) greatestEnergy
       (λ n c. rw (for-is-to m t i n) (le-trans (to-at-most (curve m) (readingAt m n) i t) (right n (omega arith) .3)))
+
+  -- so what a party has periodised in an hour is far below 64 bits
+  pub light : (t i : ℕ) → periodised m t i ≤ longestFile * greatestEnergy
+  unfolding periodised
+  light t i =
+      le-trans (small t i (length (m .readings)) (le-refl (length (m .readings))))
+      (mul-le-mul-right {m = length (m .readings)} {n = longestFile} greatestEnergy (omega (arith, few-readings file s (a .accepted), readings-are file s (a .accepted))))
 
   -- nothing yet
   pub counted-start : {out : List ℕ} → out ≡ figures lent noWh → Counted m start hours out 0
