@@ -1,3 +1,5 @@
 pub mod OneWindow
 pub mod AllWindows
 pub mod Chain
+pub mod Sizes
+pub mod Writing
