@@ -12,10 +12,11 @@ ghost use lib.IntN.{pos};
 ghost use lib.ListN.{length};
 ghost use Rattle.apportion.specs.Filled.{Filled};
 ghost use Rattle.apportion.specs.Good.{Startable, Started, Ready, Next};
-ghost use Rattle.apportion.specs.Parts.{beforeNumber, below, grownBy, quotientBy, restBy, figureBy, minus, SmallParts};
+ghost use Rattle.apportion.specs.Parts.{belowNumber, tiedNumber, grownBy, quotientBy, restBy, figureBy, minus, SmallParts};
+ghost use Rattle.apportion.specs.Threshold.{howManyAbove, Threshold};
 ghost use Rattle.answer.specs.Said.{said};
 ghost use Rattle.apportion.specs.Service.{shapeVerdict, wVerdict, FewShares, FilledOn, Distributable};
-ghost use Rattle.rules.specs.Distributed.{rank, oneEach};
+ghost use Rattle.rules.specs.Distributed.{oneEach};
 ghost use Rattle.rules.specs.Refusals.{first, afterwards};
 ghost use Rattle.rules.specs.Services.{distributionChecks, distributionFigures};
 ghost use Rattle.rules.specs.Words.{at, sum};
@@ -52,40 +53,76 @@ pub struct Carries {
     pub figures: [i64; 64],
 }
 
-// "the largest remainders ..; of equal remainders the lower party number comes first": 1 where the other comes before, else 0.
-fn comes_before(other: u64, own: u64, lower: bool) -> u64
-    ensures number { λ r. ⌜ r ≡ beforeNumber other own lower ⌝ }
-    ensures small { λ r. ⌜ r ≤ 1 ⌝ }
+// 1 where a is below b, else 0.
+fn below(a: u64, b: u64) -> u64
+    ensures { λ r. ⌜ r ≡ belowNumber a b ⌝ }
 {
-    if own < other {
-        return 1;
-    }
-    if other < own {
-        return 0;
-    }
-    if lower { 1 } else { 0 }
+    if a < b { 1 } else { 0 }
 }
 
-// How many of the first n come before i.
-fn rank_of(rest: &[u64; 64], n: usize, i: usize) -> u64
-    requires { ⌜ (n ≤ 64) × (i < 64) ⌝ }
-    ensures { λ r. ⌜ r ≡ rank n (at (now (rest .entry))) i ⌝ }
+// The larger of two.
+fn larger(a: u64, b: u64) -> u64
+    ensures { λ r. ⌜ (a ≤ r) × (b ≤ r) ⌝ }
 {
-    let own = rest[i];
-    let mut before = 0;
-    let mut j = 0;
-    while j < n {
-        before += comes_before(rest[j], own, j < i);
-        j += 1;
-    }
-    before
+    if a < b { b } else { a }
 }
 
-// 1 where the rank is below what is left, else 0.
-fn one_of(rank: u64, left: u64) -> u64
-    ensures { λ r. ⌜ r ≡ below rank left ⌝ }
+// The largest of the first n: none has more.
+fn largest(rest: &[u64; 64], n: usize) -> u64
+    requires { ⌜ n ≤ 64 ⌝ }
+    ensures { λ r. ⌜ howManyAbove n (at (now (rest .entry))) r ≡ 0 ⌝ }
 {
-    if rank < left { 1 } else { 0 }
+    let mut most = 0;
+    let mut i = 0;
+    while i < n {
+        most = larger(most, rest[i]);
+        i += 1;
+    }
+    most
+}
+
+// How many of the first n have more than v. It goes over the parties some eight times an hour, so its leaf has no branch once compiled.
+fn above(rest: &[u64; 64], n: usize, v: u64) -> u64
+    requires { ⌜ n ≤ 64 ⌝ }
+    ensures { λ r. ⌜ r ≡ howManyAbove n (at (now (rest .entry))) v ⌝ }
+{
+    let mut over = 0;
+    let mut i = 0;
+    while i < n {
+        over += below(v, rest[i]);
+        i += 1;
+    }
+    over
+}
+
+// A value that parts those who have one from those who have none, by halving. It stops where just `left` have more: of remainders that differ, that is so
+// long before the halves are single values.
+fn threshold(rest: &[u64; 64], n: usize, left: u64) -> u64
+    requires { ⌜ n ≤ 64 ⌝ }
+    ensures { λ r. ⌜ Threshold n (at (now (rest .entry))) left r ⌝ }
+{
+    let mut low = 0;
+    let mut high = largest(rest, n);
+    while low < high {
+        let middle = low + (high - low) / 2;
+        let over = above(rest, n, middle);
+        if over == left {
+            return middle;
+        }
+        if left < over {
+            low = middle + 1;
+        } else {
+            high = middle;
+        }
+    }
+    high
+}
+
+// "of equal remainders the lower party number comes first": 1 for a party at the threshold, as long as something is left to give, else 0.
+fn tied(own: u64, v: u64, spare: u64) -> u64
+    ensures { λ r. ⌜ r ≡ tiedNumber own v spare ⌝ }
+{
+    if own == v { below(0, spare) } else { 0 }
 }
 
 // "The Wh still left over go one each to the parties with the largest remainders": 1 for each of the `left` of n with the largest `rest`, else 0. Nothing
@@ -94,10 +131,15 @@ pub fn one_each(rest: &[u64; 64], n: usize, left: u64) -> [u64; 64]
     requires { ⌜ n ≤ 64 ⌝ }
     ensures { λ r. ⌜ Filled 0 (oneEach n (at (now (rest .entry))) left) n r ⌝ }
 {
+    let v = threshold(rest, n, left);
+    let mut spare = left - above(rest, n, v);
     let mut extra = [0u64; 64];
     let mut i = 0;
     while i < n {
-        extra[i] = one_of(rank_of(rest, n, i), left);
+        let own = rest[i];
+        let tie = tied(own, v, spare);
+        extra[i] = below(v, own) + tie;
+        spare -= tie;
         i += 1;
     }
     extra

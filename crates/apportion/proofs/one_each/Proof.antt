@@ -1,35 +1,53 @@
--- `apportion::one_each` meets its contract: the first i places hold what the first i get. Assumes nothing.
+-- `apportion::one_each` meets its contract: the first i places hold what the first i get, and `spare` is what is then left for those at the threshold. Assumes nothing.
 use Prim.Native.Nat.{_-_}
-use Rattle.apportion.proofs.Arrays.{Upto, upto-start, upto-next, upto-end}
-use Rattle.apportion.specs.Parts.{below}
-use Rattle.rules.specs.Distributed.{oneEach}
-use Rattle.rules.specs.Words.{at}
-use borrow.Author.Needs.{needs}
-use mathlib.Core.Path.{_∙_, ap}
 use native.Mathlib.Omega.{arith}
+use borrow.Author.Needs.{needs}
+use Rattle.apportion.proofs.Arrays.{upto-end}
+use Rattle.apportion.proofs.Thresholds.{Giving, giving-start, giving-small, giving-room, giving-next}
 use Rattle.apportion.proofs.one_each.Statement.{statement}
 use Rattle.apportion.proofs.one_each.Tie as tie
 
 abbrev Inv-loop : tie.InvT-loop
-Inv-loop rest n left extra₀ i₀ extra i = Upto 0 (oneEach n (at rest) left) n i extra
+Inv-loop rest n left v spare₀ extra₀ i₀ spare extra i = Giving rest n left v spare i extra
 
 abbrev μ-loop : tie.MeasureT-loop
-μ-loop rest n left extra₀ i₀ extra i = n - i
+μ-loop rest n left v spare₀ extra₀ i₀ spare extra i = n - i
+
+threshold-requires : tie.Need-threshold-requires Inv-loop μ-loop
+threshold-requires c κs = search needs
+
+above-requires : tie.Need-above-requires Inv-loop μ-loop
+above-requires c κs = search needs
+
+sub-spare : tie.Need-sub-spare Inv-loop μ-loop
+sub-spare c = omega (arith, c .above .ensures, c .before .threshold .ensures .few)
 
 loop-holds : tie.Need-loop-holds Inv-loop μ-loop
-loop-holds c = upto-start 0 _ _
+loop-holds c = giving-start (c .above .ensures)
 
-rank-of-requires : tie.Need-rank-of-requires Inv-loop μ-loop
-rank-of-requires c κs = search needs
+mul-own : tie.Need-mul-own Inv-loop μ-loop
+mul-own c = search needs
 
-one-of-requires : tie.Need-one-of-requires Inv-loop μ-loop
-one-of-requires c κs = search needs
+element-copy-out-own : tie.Need-element-copy-out-own Inv-loop μ-loop
+element-copy-out-own c = search needs
+
+tied-requires : tie.Need-tied-requires Inv-loop μ-loop
+tied-requires c κs = search needs
+
+below-requires : tie.Need-below-requires Inv-loop μ-loop
+below-requires c κs = search needs
+
+add-extra : tie.Need-add-extra Inv-loop μ-loop
+add-extra c = omega (arith, giving-small (c .before .before .before .before .before .before .threshold .ensures) (c .before .before .before .before .loop .inv) (omega arith) (c .before .tied .ensures) (c .below .ensures))
 
 mul-extra : tie.Need-mul-extra Inv-loop μ-loop
 mul-extra c = search needs
 
 array-write-extra : tie.Need-array-write-extra Inv-loop μ-loop
 array-write-extra c = search needs
+
+sub-spare-2 : tie.Need-sub-spare-2 Inv-loop μ-loop
+sub-spare-2 c = giving-room (c .before .before .before .before .before .before .threshold .ensures) (c .before .before .before .before .loop .inv) (omega arith) (c .before .tied .ensures) (c .below .ensures)
 
 add-i : tie.Need-add-i Inv-loop μ-loop
 add-i c = search needs
@@ -38,11 +56,10 @@ loop-less : tie.Need-loop-less Inv-loop μ-loop
 loop-less c = search needs
 
 loop-again : tie.Need-loop-again Inv-loop μ-loop
-unfolding oneEach
-loop-again c = upto-next (c .before .before .before .loop .inv) (omega arith) (omega arith) (c .one-of .ensures ∙ rw (c .before .rank-of .ensures))
+loop-again c = giving-next (c .before .before .before .before .before .before .threshold .ensures) (c .before .before .before .before .loop .inv) (omega arith) (c .before .tied .ensures) (c .below .ensures) (omega arith)
 
 returns : tie.Need-returns Inv-loop μ-loop
-returns c = upto-end (c .before .loop .inv) (omega arith)
+returns c = upto-end (c .before .loop .inv .upto) (omega arith)
 
 pub one-each-spec : {M : Type 1} → statement M
 one-each-spec =
@@ -50,11 +67,18 @@ one-each-spec =
     (tie.spec
     Inv-loop
     μ-loop
+    threshold-requires
+    above-requires
+    sub-spare
     loop-holds
-    rank-of-requires
-    one-of-requires
+    mul-own
+    element-copy-out-own
+    tied-requires
+    below-requires
+    add-extra
     mul-extra
     array-write-extra
+    sub-spare-2
     add-i
     loop-less
     loop-again

@@ -1,0 +1,246 @@
+-- The largest remainders told by a threshold, and the loops that find it. A rank is how many have more and how many of the lower numbers have as much. So who
+-- has more than the threshold v comes among those that have more, at most `left`; who has less comes after all that have more than its own, at least `left`;
+-- and who has just v comes after those that have more and the lower numbers at v.
+use mathlib.Core.Bool.{cond, _&&_}
+use mathlib.Core.List.{List}
+use mathlib.Core.Logic.{_⊎_, inl, inr, ⊎-elim}
+use mathlib.Core.Path.{_≡_, refl, sym, _∙_, ap}
+use Prim.Native.Nat.{ℕ, zero, suc, _+_, _-_, _/_, _≤_, _<_, zero-le}
+use native.Mathlib.Nat.{le-antisymm, le-refl, le-trans, eq-or-lt-of-le, not-suc-le-zero, eq-zero-or-pos}
+use native.Mathlib.Numerals.{add-one}
+use native.Mathlib.Omega.{arith}
+use borrow.Author.Tests.{eq-eqb, ne-eqb}
+use lib.Dec.{eqb, ltb}
+use lib.ListN.{getD, set, replicate}
+use Rattle.apportion.specs.Parts.{belowNumber, tiedNumber}
+use Rattle.apportion.specs.Threshold.{howManyAbove, howManyAt, Threshold}
+use Rattle.rules.specs.Distributed.{comesBefore, rank, oneEach}
+use Rattle.rules.specs.Limits.{mostParties}
+use Rattle.rules.specs.Words.{sum, count, at}
+use Rattle.rules.proofs.LargestRemainder.{less, less-cases, less-one, less-zero, less-at-most-one, less-same, before, before-is, tie-break-orders, one-at-most}
+use Rattle.rules.proofs.Sums.{sum-cong, sum-add, sum-le, sum-lt, sum-zero, sum-split}
+use Rattle.apportion.proofs.Arrays.{Upto, upto-start, upto-next, upto-end}
+
+-- the test of equality as a number
+abbrev same : ℕ → ℕ → ℕ
+same a b = cond (eqb a b) 1 0
+
+same-one : (a b : ℕ) → a ≡ b → same a b ≡ 1
+same-one a b e = rw (eq-eqb a b e)
+
+same-zero : (a b : ℕ) → (a ≡ b → ⊥) → same a b ≡ 0
+same-zero a b e = rw (ne-eqb a b e)
+
+-- less, equal or more
+three-ways : (a b : ℕ) → (a < b) ⊎ ((a ≡ b) ⊎ (b < a))
+three-ways a b =
+    ⊎-elim (λ (l : (a < b) × (less a b ≡ 1)). inl (l .0))
+    (λ (g : (b ≤ a) × (less a b ≡ 0)). inr (⊎-elim (λ (e : b ≡ a). inl (sym e)) (λ (l : b < a). inr l) (eq-or-lt-of-le (g .0))))
+    (less-cases a b)
+
+less-more : (a b c d : ℕ) → (a < b → c < d) → less a b ≤ less c d
+less-more a b c d to =
+    ⊎-elim (λ (l : (a < b) × (less a b ≡ 1)). omega (arith, l .1, less-one c d (to (l .0))))
+    (λ (g : (b ≤ a) × (less a b ≡ 0)). omega (arith, g .1))
+    (less-cases a b)
+
+alike : (a b : ℕ) → (a ≡ b) ⊎ (a ≡ b → ⊥)
+alike a b =
+    ⊎-elim (λ (l : a < b). inr (λ e. omega arith)) (⊎-elim (λ (e : a ≡ b). inl e) (λ (l : b < a). inr (λ e. omega arith))) (three-ways a b)
+
+above-one-more : (n : ℕ) (rest : ℕ → ℕ) (v : ℕ) → howManyAbove (suc n) rest v ≡ howManyAbove n rest v + belowNumber v (rest n)
+unfolding howManyAbove count sum
+above-one-more n rest v = refl
+
+module _ (n : ℕ) (rest : ℕ → ℕ) where
+  -- the higher the value, the fewer have more
+  pub above-falls : (u v : ℕ) → u ≤ v → howManyAbove n rest v ≤ howManyAbove n rest u
+  unfolding howManyAbove count
+  above-falls u v h = sum-le n (λ j b. less-more v (rest j) u (rest j) (λ l. omega arith))
+
+  -- who has more than v has a rank among those that do
+  rank-over : (v i : ℕ) → i < n → v < rest i → rank n rest i < howManyAbove n rest v
+  unfolding rank howManyAbove count
+  rank-over v i b h =
+      sum-lt n
+      (λ j c. rw (before-is rest j i) (less-more (rest i) (rest j + less j i) v (rest j) (λ l. omega (arith, less-at-most-one j i))))
+      b
+      (omega (arith, tie-break-orders rest .self i, less-one v (rest i) h))
+
+  -- no rank is below the number of those that have more
+  rank-under : (i : ℕ) → howManyAbove n rest (rest i) ≤ rank n rest i
+  unfolding rank howManyAbove count
+  rank-under i =
+      sum-le n (λ j c. rw (before-is rest j i) (less-more (rest i) (rest j) (rest i) (rest j + less j i) (λ l. omega arith)))
+
+-- and besides these only the lower numbers that have as much come before
+before-lower : (rest : ℕ → ℕ) (i j : ℕ) → j < i → before rest j i ≡ less (rest i) (rest j) + same (rest j) (rest i)
+before-lower rest i j b =
+    ⊎-elim
+    (λ (l : rest i < rest j).
+    omega (arith, before-is rest j i, less-one (rest i) (rest j + less j i) (omega arith), less-one (rest i) (rest j) l, same-zero (rest j) (rest i) (λ e. omega arith)))
+    (⊎-elim
+    (λ (e : rest i ≡ rest j).
+    omega (arith, before-is rest j i, less-one (rest i) (rest j + less j i) (omega (arith, less-one j i b)), less-zero (rest i) (rest j) (omega arith), same-one (rest j) (rest i) (sym e)))
+    (λ (l : rest j < rest i).
+    omega (arith, before-is rest j i, less-zero (rest i) (rest j + less j i) (omega (arith, less-at-most-one j i)), less-zero (rest i) (rest j) (omega arith), same-zero (rest j) (rest i) (λ e. omega arith))))
+    (three-ways (rest i) (rest j))
+
+before-higher : (rest : ℕ → ℕ) (i j : ℕ) → i ≤ j → before rest j i ≡ less (rest i) (rest j)
+before-higher rest i j b =
+    let z : less j i ≡ 0 = less-zero j i b in
+    let e : rest j + less j i ≡ rest j = omega arith in
+    before-is rest j i ∙ ap (λ (x : ℕ). less (rest i) x) e
+
+rank-is : (n : ℕ) (rest : ℕ → ℕ) (i : ℕ) → i ≤ n → rank n rest i ≡ howManyAbove n rest (rest i) + howManyAt i rest (rest i)
+unfolding rank howManyAbove howManyAt count
+rank-is n rest i b =
+    let whole : i + (n - i) ≡ n = omega arith in
+    let more : ℕ → ℕ = λ j. less (rest i) (rest j) in
+    let lower : sum i (λ j. before rest j i) ≡ sum i (λ j. more j + same (rest j) (rest i)) = sum-cong i (λ j c. before-lower rest i j c) in
+    let higher : sum (n - i) (λ k. before rest (i + k) i) ≡ sum (n - i) (λ k. more (i + k)) = sum-cong (n - i) (λ k c. before-higher rest i (i + k) (omega arith)) in
+    omega (
+      arith,
+      lower,
+      higher,
+      sum-add i more (λ j. same (rest j) (rest i)),
+      sum-split i (n - i) (λ j. before rest j i),
+      sum-split i (n - i) more,
+      ap (λ (m : ℕ). sum m (λ j. before rest j i)) whole,
+      ap (λ (m : ℕ). sum m more) whole,
+    )
+
+-- WHO HAS ONE: all that have more than the threshold, and of those that have just as much the lower numbers, as long as something is left to give.
+module _ {n : ℕ} {rest : ℕ → ℕ} {left v : ℕ} (threshold : Threshold n rest left v) {i spare : ℕ} (b : i < n) (is : spare ≡ left - (howManyAbove n rest v + howManyAt i rest v)) where
+  pub gets : belowNumber v (rest i) + tiedNumber (rest i) v spare ≡ oneEach n rest left i
+  unfolding oneEach
+  gets =
+      ⊎-elim
+      (λ (l : rest i < v).
+      rw (ne-eqb (rest i) v (λ e. omega arith))
+      (omega (arith, less-zero v (rest i) (omega arith), less-zero (rank n rest i) left (le-trans (threshold .enough (rest i) l) (rank-under n rest i)))))
+      (⊎-elim
+      (λ (e : rest i ≡ v).
+      let r : rank n rest i ≡ howManyAbove n rest v + howManyAt i rest v = rw e at (rank-is n rest i (omega arith)) in
+      rw (eq-eqb (rest i) v e)
+      (omega (arith, less-zero v (rest i) (omega arith), less-same 0 spare (rank n rest i) left (λ l. omega arith) (λ l. omega arith))))
+      (λ (l : v < rest i).
+      rw (ne-eqb (rest i) v (λ e. omega arith))
+      (omega (arith, less-one v (rest i) l, less-one (rank n rest i) left (omega (arith, rank-over n rest v i b l, threshold .few))))))
+      (three-ways (rest i) v)
+
+  -- what is then still to give
+  pub spares : spare - tiedNumber (rest i) v spare ≡ left - (howManyAbove n rest v + howManyAt (suc i) rest v)
+  unfolding howManyAt count sum
+  spares =
+      ⊎-elim
+      (λ (e : rest i ≡ v).
+      rw (eq-eqb (rest i) v e)
+      (⊎-elim (λ (l : (0 < spare) × (less 0 spare ≡ 1)). omega (arith, l .1)) (λ (g : (spare ≤ 0) × (less 0 spare ≡ 0)). omega (arith, g .1)) (less-cases 0 spare)))
+      (λ (d : rest i ≡ v → ⊥). rw (ne-eqb (rest i) v d) (omega arith))
+      (alike (rest i) v)
+
+-- no more is given than there is
+tied-small : (own v spare : ℕ) → tiedNumber own v spare ≤ spare
+tied-small own v spare =
+    ⊎-elim
+    (λ (e : own ≡ v).
+    rw (eq-eqb own v e)
+    (⊎-elim (λ (l : (0 < spare) × (less 0 spare ≡ 1)). omega (arith, l .1)) (λ (g : (spare ≤ 0) × (less 0 spare ≡ 0)). omega (arith, g .1)) (less-cases 0 spare)))
+    (λ (d : own ≡ v → ⊥). rw (ne-eqb own v d) zero-le)
+    (alike own v)
+
+-- A loop that has looked at the first i of n, for the largest of them.
+pub record Largest (rest : List ℕ) (n most i : ℕ) : Type 0 where
+  pub bound : i ≤ n
+  pub none : howManyAbove i (at rest) most ≡ 0
+
+pub largest-start : (rest : List ℕ) (n : ℕ) → Largest rest n 0 0
+unfolding howManyAbove count sum
+largest-start rest n = record { bound = zero-le; none = refl }
+
+pub largest-next : {rest : List ℕ} {n most i next : ℕ} → Largest rest n most i → i < n → (most ≤ next) × (getD rest i 0 ≤ next) → Largest rest n next (i + 1)
+unfolding at
+largest-next {rest} {n} {most} {i} {next} l b h =
+    record { bound = omega arith; none = rw (add-one i) (omega (arith, above-one-more i (at rest) next, above-falls i (at rest) most next (h .0), less-zero next (getD rest i 0) (h .1), l .none)) }
+
+pub largest-end : {rest : List ℕ} {n most i : ℕ} → Largest rest n most i → n ≤ i → howManyAbove n (at rest) most ≡ 0
+largest-end {rest} {n} {most} {i} l b =
+    let e : n ≡ i = le-antisymm b (l .bound) in
+    ap (λ (k : ℕ). howManyAbove k (at rest) most) e ∙ l .none
+
+-- A loop that has counted among the first i of n.
+pub record Counting (rest : List ℕ) (n v over i : ℕ) : Type 0 where
+  pub bound : i ≤ n
+  pub small : over ≤ i
+  pub counted : over ≡ howManyAbove i (at rest) v
+
+pub count-start : (rest : List ℕ) (n v : ℕ) → Counting rest n v 0 0
+unfolding howManyAbove count sum
+count-start rest n v = record { bound = zero-le; small = zero-le; counted = refl }
+
+pub count-next : {rest : List ℕ} {n v over i one : ℕ} → Counting rest n v over i → i < n → one ≡ belowNumber v (getD rest i 0) → Counting rest n v (over + one) (i + 1)
+unfolding at
+count-next {rest} {n} {v} {over} {i} {one} c b e =
+    record { bound = omega arith; small = omega (arith, e, less-at-most-one v (getD rest i 0), c .small); counted = rw (add-one i) (omega (arith, above-one-more i (at rest) v, c .counted, e)) }
+
+pub count-end : {rest : List ℕ} {n v over i : ℕ} → Counting rest n v over i → n ≤ i → over ≡ howManyAbove n (at rest) v
+count-end {rest} {n} {v} {over} {i} c b =
+    let e : i ≡ n = le-antisymm (c .bound) b in
+    c .counted ∙ ap (λ (k : ℕ). howManyAbove k (at rest) v) e
+
+-- A loop that has the threshold between two values.
+pub record Halving (n : ℕ) (rest : ℕ → ℕ) (left low high : ℕ) : Type 0 where
+  pub order : low ≤ high
+  pub fits : high < 18446744073709551616
+  pub few : howManyAbove n rest high ≤ left
+  pub enough : (u : ℕ) → u < low → left ≤ howManyAbove n rest u
+
+pub halving-start : {n : ℕ} {rest : ℕ → ℕ} {left high : ℕ} → high < 18446744073709551616 → howManyAbove n rest high ≡ 0 → Halving n rest left 0 high
+halving-start f e = record { order = zero-le; fits = f; few = omega (arith, e); enough = λ u b. absurd (not-suc-le-zero b) }
+
+module _ {n : ℕ} {rest : ℕ → ℕ} {left low high middle over : ℕ} (h : Halving n rest left low high) (is : over ≡ howManyAbove n rest middle) where
+  pub halving-stops : over ≡ left → Threshold n rest left middle
+  halving-stops e =
+      record { few = omega (arith, e, is); enough = λ u b. omega (arith, e, is, above-falls n rest u middle (omega arith)) }
+
+  pub halving-up : middle < high → left < over → Halving n rest left (middle + 1) high
+  halving-up m l =
+      record { order = omega arith; fits = h .fits; few = h .few; enough = λ u b. omega (arith, l, is, above-falls n rest u middle (omega arith)) }
+
+  pub halving-down : low ≤ middle → middle < high → over ≤ left → Halving n rest left low middle
+  halving-down m f l = record { order = m; fits = omega (arith, h .fits); few = omega (arith, l, is); enough = h .enough }
+
+pub halving-end : {n : ℕ} {rest : ℕ → ℕ} {left low high : ℕ} → Halving n rest left low high → high ≤ low → Threshold n rest left high
+halving-end h b = record { few = h .few; enough = λ u l. h .enough u (omega arith) }
+
+-- A loop that has given to the first i of n.
+pub record Giving (rest : List ℕ) (n left v spare i : ℕ) (extra : List ℕ) : Type 0 where
+  pub upto : Upto 0 (oneEach n (at rest) left) n i extra
+  pub to-give : spare ≡ left - (howManyAbove n (at rest) v + howManyAt i (at rest) v)
+
+pub giving-start : {rest : List ℕ} {n left v over : ℕ} → over ≡ howManyAbove n (at rest) v → Giving rest n left v (left - over) 0 (replicate 64 0)
+unfolding howManyAt count sum
+giving-start {rest} {n} {left} e = record { upto = upto-start 0 (oneEach n (at rest) left) n; to-give = omega (arith, e) }
+
+module _ {rest : List ℕ} {n left v spare i tie one : ℕ} {extra : List ℕ}
+    (threshold : Threshold n (at rest) left v)
+    (g : Giving rest n left v spare i extra)
+    (b : i < n)
+    (t : tie ≡ tiedNumber (getD rest i 0) v spare)
+    (o : one ≡ belowNumber v (getD rest i 0))
+  where
+    given : one + tie ≡ oneEach n (at rest) left i
+    unfolding at
+    given = omega (arith, t, o, gets threshold b (g .to-give))
+
+    pub giving-small : one + tie ≤ 1
+    giving-small = omega (arith, given, one-at-most n (at rest) left i)
+
+    pub giving-room : tie ≤ spare
+    giving-room = omega (arith, t, tied-small (getD rest i 0) v spare)
+
+    pub giving-next : n ≤ mostParties → Giving rest n left v (spare - tie) (i + 1) (set extra i (one + tie))
+    unfolding at
+    giving-next few =
+        record { upto = upto-next (g .upto) b few given; to-give = rw (add-one i) (omega (arith, t, spares threshold b (g .to-give))) }
