@@ -169,25 +169,28 @@ largest-end {rest} {n} {most} {i} l b =
     let e : n ≡ i = le-antisymm b (l .bound) in
     ap (λ (k : ℕ). howManyAbove k (at rest) most) e ∙ l .none
 
--- A loop that has counted among the first i of n.
+-- A loop that has counted from the last of n down to i.
 pub record Counting (rest : List ℕ) (n v over i : ℕ) : Type 0 where
-  pub bound : i ≤ n
-  pub small : over ≤ i
-  pub counted : over ≡ howManyAbove i (at rest) v
+  pub small : over + i ≤ n
+  pub counted : over + howManyAbove i (at rest) v ≡ howManyAbove n (at rest) v
 
-pub count-start : (rest : List ℕ) (n v : ℕ) → Counting rest n v 0 0
-unfolding howManyAbove count sum
-count-start rest n v = record { bound = zero-le; small = zero-le; counted = refl }
+pub count-start : (rest : List ℕ) (n v : ℕ) → Counting rest n v 0 n
+count-start rest n v = record { small = omega arith; counted = omega arith }
 
-pub count-next : {rest : List ℕ} {n v over i one : ℕ} → Counting rest n v over i → i < n → one ≡ belowNumber v (getD rest i 0) → Counting rest n v (over + one) (i + 1)
+pub count-next : {rest : List ℕ} {n v over i one : ℕ} → Counting rest n v over i → 0 < i → one ≡ belowNumber v (getD rest (i - 1) 0) → Counting rest n v (over + one) (i - 1)
 unfolding at
 count-next {rest} {n} {v} {over} {i} {one} c b e =
-    record { bound = omega arith; small = omega (arith, e, less-at-most-one v (getD rest i 0), c .small); counted = rw (add-one i) (omega (arith, above-one-more i (at rest) v, c .counted, e)) }
+    let same-place : suc (i - 1) ≡ i = omega arith in
+    record {
+      small = omega (arith, e, less-at-most-one v (getD rest (i - 1) 0), c .small);
+      counted = omega (arith, above-one-more (i - 1) (at rest) v, ap (λ (k : ℕ). howManyAbove k (at rest) v) same-place, c .counted, e);
+    }
 
-pub count-end : {rest : List ℕ} {n v over i : ℕ} → Counting rest n v over i → n ≤ i → over ≡ howManyAbove n (at rest) v
+pub count-end : {rest : List ℕ} {n v over i : ℕ} → Counting rest n v over i → i ≤ 0 → over ≡ howManyAbove n (at rest) v
+unfolding howManyAbove count sum
 count-end {rest} {n} {v} {over} {i} c b =
-    let e : i ≡ n = le-antisymm (c .bound) b in
-    c .counted ∙ ap (λ (k : ℕ). howManyAbove k (at rest) v) e
+    let none : i ≡ 0 = omega arith in
+    omega (arith, c .counted, ap (λ (k : ℕ). howManyAbove k (at rest) v) none)
 
 -- A loop that has the threshold between two values.
 pub record Halving (n : ℕ) (rest : ℕ → ℕ) (left low high : ℕ) : Type 0 where

@@ -81,16 +81,16 @@ fn largest(rest: &[u64; 64], n: usize) -> u64
     most
 }
 
-// How many of the first n have more than v. It goes over the parties some eight times an hour, so its leaf has no branch once compiled.
+// How many of the first n have more than v. From the last to the first: upwards the compiler takes two at a time, which costs it twice as much.
 fn above(rest: &[u64; 64], n: usize, v: u64) -> u64
     requires { ⌜ n ≤ 64 ⌝ }
     ensures { λ r. ⌜ r ≡ howManyAbove n (at (now (rest .entry))) v ⌝ }
 {
     let mut over = 0;
-    let mut i = 0;
-    while i < n {
+    let mut i = n;
+    while 0 < i {
+        i -= 1;
         over += below(v, rest[i]);
-        i += 1;
     }
     over
 }
