@@ -1,25 +1,25 @@
 -- The largest remainders told by a threshold, and the loops that find it. A rank is how many have more and how many of the lower numbers have as much. So who
 -- has more than the threshold v comes among those that have more, at most `left`; who has less comes after all that have more than its own, at least `left`;
 -- and who has just v comes after those that have more and the lower numbers at v.
-use mathlib.Core.Bool.{cond, _&&_}
+use mathlib.Core.Bool.{cond}
 use mathlib.Core.List.{List}
 use mathlib.Core.Logic.{_⊎_, inl, inr, ⊎-elim}
 use mathlib.Core.Path.{_≡_, refl, sym, _∙_, ap}
-use Prim.Native.Nat.{ℕ, zero, suc, _+_, _-_, _/_, _≤_, _<_, zero-le}
-use native.Mathlib.Nat.{le-antisymm, le-refl, le-trans, eq-or-lt-of-le, not-suc-le-zero, eq-zero-or-pos}
+use Prim.Native.Nat.{ℕ, zero, suc, _+_, _-_, _≤_, _<_, zero-le}
+use native.Mathlib.Nat.{le-antisymm, le-trans, eq-or-lt-of-le, not-suc-le-zero}
 use native.Mathlib.Numerals.{add-one}
 use native.Mathlib.Omega.{arith}
 use borrow.Author.Tests.{eq-eqb, ne-eqb}
-use lib.Dec.{eqb, ltb}
+use lib.Dec.{eqb}
 use lib.ListN.{getD, set, replicate}
 use Rattle.apportion.specs.Parts.{belowNumber, tiedNumber}
 use Rattle.apportion.specs.Threshold.{howManyAbove, howManyAt, Threshold}
-use Rattle.rules.specs.Distributed.{comesBefore, rank, oneEach}
+use Rattle.rules.specs.Distributed.{rank, oneEach}
 use Rattle.rules.specs.Limits.{mostParties}
 use Rattle.rules.specs.Words.{sum, count, at}
 use Rattle.rules.proofs.LargestRemainder.{less, less-cases, less-one, less-zero, less-at-most-one, less-same, before, before-is, tie-break-orders, one-at-most}
-use Rattle.rules.proofs.Sums.{sum-cong, sum-add, sum-le, sum-lt, sum-zero, sum-split}
-use Rattle.apportion.proofs.Arrays.{Upto, upto-start, upto-next, upto-end}
+use Rattle.rules.proofs.Sums.{sum-cong, sum-add, sum-le, sum-lt, sum-split}
+use Rattle.apportion.proofs.Arrays.{Upto, upto-start, upto-next}
 
 -- the test of equality as a number
 abbrev same : ℕ → ℕ → ℕ
@@ -54,7 +54,7 @@ above-one-more n rest v = refl
 
 module _ (n : ℕ) (rest : ℕ → ℕ) where
   -- the higher the value, the fewer have more
-  pub above-falls : (u v : ℕ) → u ≤ v → howManyAbove n rest v ≤ howManyAbove n rest u
+  above-falls : (u v : ℕ) → u ≤ v → howManyAbove n rest v ≤ howManyAbove n rest u
   unfolding howManyAbove count
   above-falls u v h = sum-le n (λ j b. less-more v (rest j) u (rest j) (λ l. omega arith))
 
@@ -110,45 +110,60 @@ rank-is n rest i b =
       ap (λ (m : ℕ). sum m more) whole,
     )
 
--- WHO HAS ONE: all that have more than the threshold, and of those that have just as much the lower numbers, as long as something is left to give.
+-- who has just v gets one while something is left to give, any other none of it
+tied-is : (own v spare : ℕ) → own ≡ v → tiedNumber own v spare ≡ less 0 spare
+tied-is own v spare e = rw (eq-eqb own v e)
+
+tied-none : (own v spare : ℕ) → (own ≡ v → ⊥) → tiedNumber own v spare ≡ 0
+tied-none own v spare d = rw (ne-eqb own v d)
+
+one-taken : (n : ℕ) → (less 0 n ≤ n) × (n - less 0 n ≡ n - 1)
+one-taken zero = (omega arith, omega arith)
+one-taken (suc n) = let one : less 0 (suc n) ≡ 1 = less-one 0 (suc n) (omega arith) in (omega arith, omega arith)
+
+tied-small : (own v spare : ℕ) → tiedNumber own v spare ≤ spare
+tied-small own v spare =
+    ⊎-elim (λ (e : own ≡ v). omega (arith, tied-is own v spare e, one-taken spare .0)) (λ (d : own ≡ v → ⊥). omega (arith, tied-none own v spare d)) (alike own v)
+
 module _ {n : ℕ} {rest : ℕ → ℕ} {left v : ℕ} (threshold : Threshold n rest left v) {i spare : ℕ} (b : i < n) (is : spare ≡ left - (howManyAbove n rest v + howManyAt i rest v)) where
-  pub gets : belowNumber v (rest i) + tiedNumber (rest i) v spare ≡ oneEach n rest left i
+  -- WHO HAS ONE: all that have more than the threshold, and of those that have just as much the lower numbers, as long as something is left to give.
+  gets : belowNumber v (rest i) + tiedNumber (rest i) v spare ≡ oneEach n rest left i
   unfolding oneEach
   gets =
       ⊎-elim
       (λ (l : rest i < v).
-      rw (ne-eqb (rest i) v (λ e. omega arith))
-      (omega (arith, less-zero v (rest i) (omega arith), less-zero (rank n rest i) left (le-trans (threshold .enough (rest i) l) (rank-under n rest i)))))
+      omega (
+        arith,
+        less-zero v (rest i) (omega arith),
+        tied-none (rest i) v spare (λ e. omega arith),
+        less-zero (rank n rest i) left (le-trans (threshold .enough (rest i) l) (rank-under n rest i)),
+      ))
       (⊎-elim
       (λ (e : rest i ≡ v).
       let r : rank n rest i ≡ howManyAbove n rest v + howManyAt i rest v = rw e at (rank-is n rest i (omega arith)) in
-      rw (eq-eqb (rest i) v e)
-      (omega (arith, less-zero v (rest i) (omega arith), less-same 0 spare (rank n rest i) left (λ l. omega arith) (λ l. omega arith))))
+      omega (
+        arith,
+        less-zero v (rest i) (omega arith),
+        tied-is (rest i) v spare e,
+        less-same 0 spare (rank n rest i) left (λ l. omega arith) (λ l. omega arith),
+      ))
       (λ (l : v < rest i).
-      rw (ne-eqb (rest i) v (λ e. omega arith))
-      (omega (arith, less-one v (rest i) l, less-one (rank n rest i) left (omega (arith, rank-over n rest v i b l, threshold .few))))))
+      omega (
+        arith,
+        less-one v (rest i) l,
+        tied-none (rest i) v spare (λ e. omega arith),
+        less-one (rank n rest i) left (omega (arith, rank-over n rest v i b l, threshold .few)),
+      )))
       (three-ways (rest i) v)
 
   -- what is then still to give
-  pub spares : spare - tiedNumber (rest i) v spare ≡ left - (howManyAbove n rest v + howManyAt (suc i) rest v)
+  spares : spare - tiedNumber (rest i) v spare ≡ left - (howManyAbove n rest v + howManyAt (suc i) rest v)
   unfolding howManyAt count sum
   spares =
       ⊎-elim
-      (λ (e : rest i ≡ v).
-      rw (eq-eqb (rest i) v e)
-      (⊎-elim (λ (l : (0 < spare) × (less 0 spare ≡ 1)). omega (arith, l .1)) (λ (g : (spare ≤ 0) × (less 0 spare ≡ 0)). omega (arith, g .1)) (less-cases 0 spare)))
-      (λ (d : rest i ≡ v → ⊥). rw (ne-eqb (rest i) v d) (omega arith))
+      (λ (e : rest i ≡ v). omega (arith, tied-is (rest i) v spare e, one-taken spare .1, same-one (rest i) v e))
+      (λ (d : rest i ≡ v → ⊥). omega (arith, tied-none (rest i) v spare d, same-zero (rest i) v d))
       (alike (rest i) v)
-
--- no more is given than there is
-tied-small : (own v spare : ℕ) → tiedNumber own v spare ≤ spare
-tied-small own v spare =
-    ⊎-elim
-    (λ (e : own ≡ v).
-    rw (eq-eqb own v e)
-    (⊎-elim (λ (l : (0 < spare) × (less 0 spare ≡ 1)). omega (arith, l .1)) (λ (g : (spare ≤ 0) × (less 0 spare ≡ 0)). omega (arith, g .1)) (less-cases 0 spare)))
-    (λ (d : own ≡ v → ⊥). rw (ne-eqb own v d) zero-le)
-    (alike own v)
 
 -- A loop that has looked at the first i of n, for the largest of them.
 pub record Largest (rest : List ℕ) (n most i : ℕ) : Type 0 where
