@@ -1,3 +1,4 @@
+pub mod Order
 pub mod Thresholds
 pub mod Arrays
 pub mod Totals

@@ -1,7 +1,6 @@
 -- The largest remainders told by a threshold, and the loops that find it. A rank is how many have more and how many of the lower numbers have as much. So who
 -- has more than the threshold v comes among those that have more, at most `left`; who has less comes after all that have more than its own, at least `left`;
 -- and who has just v comes after those that have more and the lower numbers at v.
-use mathlib.Core.Bool.{cond}
 use mathlib.Core.List.{List}
 use mathlib.Core.Logic.{_⊎_, inl, inr, ⊎-elim}
 use mathlib.Core.Path.{_≡_, refl, sym, _∙_, ap}
@@ -10,25 +9,20 @@ use native.Mathlib.Nat.{le-antisymm, le-trans, eq-or-lt-of-le, not-suc-le-zero}
 use native.Mathlib.Numerals.{add-one}
 use native.Mathlib.Omega.{arith}
 use borrow.Author.Tests.{eq-eqb, ne-eqb}
-use lib.Dec.{eqb}
-use lib.ListN.{getD, set, replicate}
-use Rattle.apportion.specs.Parts.{belowNumber, tiedNumber}
-use Rattle.apportion.specs.Threshold.{howManyAbove, howManyAt, Threshold}
+use lib.Dec.{ltb}
+use lib.ListN.{getD}
+use Rattle.apportion.specs.Parts.{belowNumber, sameNumber, beforeNumber}
+use Rattle.apportion.specs.Threshold.{howManyAbove, howManyAt, Threshold, Cut}
 use Rattle.rules.specs.Distributed.{rank, oneEach}
-use Rattle.rules.specs.Limits.{mostParties}
 use Rattle.rules.specs.Words.{sum, count, at}
-use Rattle.rules.proofs.LargestRemainder.{less, less-cases, less-one, less-zero, less-at-most-one, less-same, before, before-is, tie-break-orders, one-at-most}
+use Rattle.rules.proofs.LargestRemainder.{less, less-cases, less-one, less-zero, less-at-most-one, less-same, before, before-is, tie-break-orders}
 use Rattle.rules.proofs.Sums.{sum-cong, sum-add, sum-le, sum-lt, sum-split}
-use Rattle.apportion.proofs.Arrays.{Upto, upto-start, upto-next}
+use Rattle.apportion.proofs.Order.{larger-first, smaller-later, equal-by-number}
 
--- the test of equality as a number
-abbrev same : ℕ → ℕ → ℕ
-same a b = cond (eqb a b) 1 0
-
-same-one : (a b : ℕ) → a ≡ b → same a b ≡ 1
+same-one : (a b : ℕ) → a ≡ b → sameNumber a b ≡ 1
 same-one a b e = rw (eq-eqb a b e)
 
-same-zero : (a b : ℕ) → (a ≡ b → ⊥) → same a b ≡ 0
+same-zero : (a b : ℕ) → (a ≡ b → ⊥) → sameNumber a b ≡ 0
 same-zero a b e = rw (ne-eqb a b e)
 
 -- less, equal or more
@@ -74,7 +68,7 @@ module _ (n : ℕ) (rest : ℕ → ℕ) where
       sum-le n (λ j c. rw (before-is rest j i) (less-more (rest i) (rest j) (rest i) (rest j + less j i) (λ l. omega arith)))
 
 -- and besides these only the lower numbers that have as much come before
-before-lower : (rest : ℕ → ℕ) (i j : ℕ) → j < i → before rest j i ≡ less (rest i) (rest j) + same (rest j) (rest i)
+before-lower : (rest : ℕ → ℕ) (i j : ℕ) → j < i → before rest j i ≡ less (rest i) (rest j) + sameNumber (rest j) (rest i)
 before-lower rest i j b =
     ⊎-elim
     (λ (l : rest i < rest j).
@@ -97,73 +91,56 @@ unfolding rank howManyAbove howManyAt count
 rank-is n rest i b =
     let whole : i + (n - i) ≡ n = omega arith in
     let more : ℕ → ℕ = λ j. less (rest i) (rest j) in
-    let lower : sum i (λ j. before rest j i) ≡ sum i (λ j. more j + same (rest j) (rest i)) = sum-cong i (λ j c. before-lower rest i j c) in
+    let lower : sum i (λ j. before rest j i) ≡ sum i (λ j. more j + sameNumber (rest j) (rest i)) = sum-cong i (λ j c. before-lower rest i j c) in
     let higher : sum (n - i) (λ k. before rest (i + k) i) ≡ sum (n - i) (λ k. more (i + k)) = sum-cong (n - i) (λ k c. before-higher rest i (i + k) (omega arith)) in
     omega (
       arith,
       lower,
       higher,
-      sum-add i more (λ j. same (rest j) (rest i)),
+      sum-add i more (λ j. sameNumber (rest j) (rest i)),
       sum-split i (n - i) (λ j. before rest j i),
       sum-split i (n - i) more,
       ap (λ (m : ℕ). sum m (λ j. before rest j i)) whole,
       ap (λ (m : ℕ). sum m more) whole,
     )
 
--- who has just v gets one while something is left to give, any other none of it
-tied-is : (own v spare : ℕ) → own ≡ v → tiedNumber own v spare ≡ less 0 spare
-tied-is own v spare e = rw (eq-eqb own v e)
+-- the more numbers, the more that have just v
+at-rises : (rest : ℕ → ℕ) (v i k : ℕ) → i ≤ k → howManyAt i rest v ≤ howManyAt k rest v
+unfolding howManyAt count
+at-rises rest v i k b =
+    let whole : i + (k - i) ≡ k = omega arith in
+    let test : ℕ → ℕ = λ j. sameNumber (rest j) v in
+    omega (arith, sum-split i (k - i) test, ap (λ (m : ℕ). sum m test) whole)
 
-tied-none : (own v spare : ℕ) → (own ≡ v → ⊥) → tiedNumber own v spare ≡ 0
-tied-none own v spare d = rw (ne-eqb own v d)
+at-one-more : (n : ℕ) (rest : ℕ → ℕ) (v : ℕ) → howManyAt (suc n) rest v ≡ howManyAt n rest v + sameNumber (rest n) v
+unfolding howManyAt count sum
+at-one-more n rest v = refl
 
-one-taken : (n : ℕ) → (less 0 n ≤ n) × (n - less 0 n ≡ n - 1)
-one-taken zero = (omega arith, omega arith)
-one-taken (suc n) = let one : less 0 (suc n) ≡ 1 = less-one 0 (suc n) (omega arith) in (omega arith, omega arith)
-
-tied-small : (own v spare : ℕ) → tiedNumber own v spare ≤ spare
-tied-small own v spare =
-    ⊎-elim (λ (e : own ≡ v). omega (arith, tied-is own v spare e, one-taken spare .0)) (λ (d : own ≡ v → ⊥). omega (arith, tied-none own v spare d)) (alike own v)
-
-module _ {n : ℕ} {rest : ℕ → ℕ} {left v : ℕ} (threshold : Threshold n rest left v) {i spare : ℕ} (b : i < n) (is : spare ≡ left - (howManyAbove n rest v + howManyAt i rest v)) where
-  -- WHO HAS ONE: all that have more than the threshold, and of those that have just as much the lower numbers, as long as something is left to give.
-  gets : belowNumber v (rest i) + tiedNumber (rest i) v spare ≡ oneEach n rest left i
-  unfolding oneEach
-  gets =
-      ⊎-elim
-      (λ (l : rest i < v).
-      omega (
-        arith,
-        less-zero v (rest i) (omega arith),
-        tied-none (rest i) v spare (λ e. omega arith),
-        less-zero (rank n rest i) left (le-trans (threshold .enough (rest i) l) (rank-under n rest i)),
-      ))
-      (⊎-elim
-      (λ (e : rest i ≡ v).
-      let r : rank n rest i ≡ howManyAbove n rest v + howManyAt i rest v = rw e at (rank-is n rest i (omega arith)) in
-      omega (
-        arith,
-        less-zero v (rest i) (omega arith),
-        tied-is (rest i) v spare e,
-        less-same 0 spare (rank n rest i) left (λ l. omega arith) (λ l. omega arith),
-      ))
-      (λ (l : v < rest i).
-      omega (
-        arith,
-        less-one v (rest i) l,
-        tied-none (rest i) v spare (λ e. omega arith),
-        less-one (rank n rest i) left (omega (arith, rank-over n rest v i b l, threshold .few)),
-      )))
-      (three-ways (rest i) v)
-
-  -- what is then still to give
-  spares : spare - tiedNumber (rest i) v spare ≡ left - (howManyAbove n rest v + howManyAt (suc i) rest v)
-  unfolding howManyAt count sum
-  spares =
-      ⊎-elim
-      (λ (e : rest i ≡ v). omega (arith, tied-is (rest i) v spare e, one-taken spare .1, same-one (rest i) v e))
-      (λ (d : rest i ≡ v → ⊥). omega (arith, tied-none (rest i) v spare d, same-zero (rest i) v d))
-      (alike (rest i) v)
+-- WHO HAS ONE: those that come before the threshold and the cut in the order of the remainders.
+pub gets :
+    {n : ℕ} {rest : ℕ → ℕ} {left v over cut i : ℕ}
+    → Threshold n rest left v
+    → over ≡ howManyAbove n rest v
+    → Cut n rest v (left - over) cut
+    → i < n
+    → beforeNumber (rest i) v (ltb i cut) ≡ oneEach n rest left i
+unfolding oneEach
+gets {n} {rest} {left} {v} {over} {cut} {i} threshold is c b =
+    ⊎-elim
+    (λ (l : rest i < v).
+    smaller-later (rest i) v (ltb i cut) l
+    ∙ sym (less-zero (rank n rest i) left (le-trans (threshold .enough (rest i) l) (rank-under n rest i))))
+    (⊎-elim
+    (λ (e : rest i ≡ v).
+    let r : rank n rest i ≡ howManyAbove n rest v + howManyAt i rest v = rw e at (rank-is n rest i (omega arith)) in
+    equal-by-number (rest i) v (ltb i cut) (omega arith) (omega arith)
+    ∙ less-same i cut (rank n rest i) left
+    (λ l. omega (arith, c .within i l))
+    (λ l. ⊎-elim (λ (d : (i < cut) × (less i cut ≡ 1)). d .0) (λ (d : (cut ≤ i) × (less i cut ≡ 0)). omega (arith, c .past i (d .0) b)) (less-cases i cut)))
+    (λ (l : v < rest i).
+    larger-first (rest i) v (ltb i cut) l
+    ∙ sym (less-one (rank n rest i) left (omega (arith, rank-over n rest v i b l, threshold .few)))))
+    (three-ways (rest i) v)
 
 -- A loop that has looked at the first i of n, for the largest of them.
 pub record Largest (rest : List ℕ) (n most i : ℕ) : Type 0 where
@@ -232,33 +209,38 @@ module _ {n : ℕ} {rest : ℕ → ℕ} {left low high middle over : ℕ} (h : H
 pub halving-end : {n : ℕ} {rest : ℕ → ℕ} {left low high : ℕ} → Halving n rest left low high → high ≤ low → Threshold n rest left high
 halving-end h b = record { few = h .few; enough = λ u l. h .enough u (omega arith) }
 
--- A loop that has given to the first i of n.
-pub record Giving (rest : List ℕ) (n left v spare i : ℕ) (extra : List ℕ) : Type 0 where
-  pub upto : Upto 0 (oneEach n (at rest) left) n i extra
-  pub to-give : spare ≡ left - (howManyAbove n (at rest) v + howManyAt i (at rest) v)
+-- A loop that has passed the first i of n and met fewer than `spare` that have just v.
+pub record Cutting (rest : List ℕ) (n v spare given i : ℕ) : Type 0 where
+  pub bound : i ≤ n
+  pub small : given ≤ i
+  pub room : given ≤ spare
+  pub so-far : given ≡ howManyAt i (at rest) v
+  pub within : (k : ℕ) → k < i → howManyAt k (at rest) v < spare
 
-pub giving-start : {rest : List ℕ} {n left v over : ℕ} → over ≡ howManyAbove n (at rest) v → Giving rest n left v (left - over) 0 (replicate 64 0)
+pub cut-start : (rest : List ℕ) (n v spare : ℕ) → Cutting rest n v spare 0 0
 unfolding howManyAt count sum
-giving-start {rest} {n} {left} e = record { upto = upto-start 0 (oneEach n (at rest) left) n; to-give = omega (arith, e) }
+cut-start rest n v spare = record { bound = zero-le; small = zero-le; room = zero-le; so-far = refl; within = λ k b. absurd (not-suc-le-zero b) }
 
-module _ {rest : List ℕ} {n left v spare i tie one : ℕ} {extra : List ℕ}
-    (threshold : Threshold n (at rest) left v)
-    (g : Giving rest n left v spare i extra)
-    (b : i < n)
-    (t : tie ≡ tiedNumber (getD rest i 0) v spare)
-    (o : one ≡ belowNumber v (getD rest i 0))
-  where
-    given : one + tie ≡ oneEach n (at rest) left i
+module _ {rest : List ℕ} {n v spare given i : ℕ} (c : Cutting rest n v spare given i) where
+  pub cut-stops : given ≡ spare → Cut n (at rest) v spare i
+  cut-stops e =
+      record { within = c .within; past = λ k b l. omega (arith, e, c .so-far, at-rises (at rest) v i k b) }
+
+  pub cut-end : n ≤ i → Cut n (at rest) v spare n
+  cut-end b = record { within = λ k l. c .within k (omega arith); past = λ k l m. omega arith }
+
+  module _ {one : ℕ} (b : i < n) (e : one ≡ sameNumber (getD rest i 0) v) where
+    cut-one : one ≤ 1
+    cut-one = ⊎-elim (λ (s : getD rest i 0 ≡ v). omega (arith, e, same-one (getD rest i 0) v s)) (λ (d : getD rest i 0 ≡ v → ⊥). omega (arith, e, same-zero (getD rest i 0) v d)) (alike (getD rest i 0) v)
+
+    pub cut-next : (given ≡ spare → ⊥) → Cutting rest n v spare (given + one) (i + 1)
     unfolding at
-    given = omega (arith, t, o, gets threshold b (g .to-give))
-
-    pub giving-small : one + tie ≤ 1
-    giving-small = omega (arith, given, one-at-most n (at rest) left i)
-
-    pub giving-room : tie ≤ spare
-    giving-room = omega (arith, t, tied-small (getD rest i 0) v spare)
-
-    pub giving-next : n ≤ mostParties → Giving rest n left v (spare - tie) (i + 1) (set extra i (one + tie))
-    unfolding at
-    giving-next few =
-        record { upto = upto-next (g .upto) b few given; to-give = rw (add-one i) (omega (arith, t, spares threshold b (g .to-give))) }
+    cut-next d =
+        let more : given < spare = omega (arith, d, c .room) in
+        record {
+          bound = omega arith;
+          small = omega (arith, cut-one, c .small);
+          room = omega (arith, cut-one);
+          so-far = rw (add-one i) (omega (arith, at-one-more i (at rest) v, c .so-far, e));
+          within = λ k l. ⊎-elim (λ (at-i : k ≡ i). rw at-i (omega (arith, c .so-far))) (λ (below-i : k < i). c .within k below-i) (eq-or-lt-of-le (omega arith));
+        }

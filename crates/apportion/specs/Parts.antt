@@ -1,17 +1,21 @@
 -- The parts of one step of the carries, each as a series.
-use mathlib.Core.Bool.{cond, _&&_}
+use mathlib.Core.Bool.{Bool, cond, _&&_, _||_}
 use mathlib.Core.List.{List}
 use Prim.Native.Nat.{ℕ, _+_, _-_, _*_, _/_, _<_}
 use lib.Dec.{eqb, ltb}
 use lib.IntN.{ℤ, pos, _-ℤ_}
 use Rattle.rules.specs.Words.{at}
 
--- tests as numbers: whether a is below b; and whether a party that has just v gets one of the `spare` that are still to give
+-- tests as numbers: whether a is below b, and whether they are the same
 abbrev pub belowNumber : ℕ → ℕ → ℕ
 belowNumber a b = cond (ltb a b) 1 0
 
-abbrev pub tiedNumber : ℕ → ℕ → ℕ → ℕ
-tiedNumber own v spare = cond (eqb own v && ltb 0 spare) 1 0
+abbrev pub sameNumber : ℕ → ℕ → ℕ
+sameNumber a b = cond (eqb a b) 1 0
+
+-- the tie-break as a number, of two remainders and whether the other's number is the lower
+abbrev pub beforeNumber : ℕ → ℕ → Bool → ℕ
+beforeNumber other own lower = cond (ltb own other || (eqb other own && lower)) 1 0
 
 -- the kept remainder and what the hour adds: remainder + share x residual
 unfoldable pub grownBy : List ℕ → List ℕ → ℕ → ℕ → ℕ

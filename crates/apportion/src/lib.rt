@@ -12,8 +12,8 @@ ghost use lib.IntN.{pos};
 ghost use lib.ListN.{length};
 ghost use Rattle.apportion.specs.Filled.{Filled};
 ghost use Rattle.apportion.specs.Good.{Startable, Started, Ready, Next};
-ghost use Rattle.apportion.specs.Parts.{belowNumber, tiedNumber, grownBy, quotientBy, restBy, figureBy, minus, SmallParts};
-ghost use Rattle.apportion.specs.Threshold.{howManyAbove, Threshold};
+ghost use Rattle.apportion.specs.Parts.{belowNumber, sameNumber, beforeNumber, grownBy, quotientBy, restBy, figureBy, minus, SmallParts};
+ghost use Rattle.apportion.specs.Threshold.{howManyAbove, Threshold, Cut};
 ghost use Rattle.answer.specs.Said.{said};
 ghost use Rattle.apportion.specs.Service.{shapeVerdict, wVerdict, FewShares, FilledOn, Distributable};
 ghost use Rattle.rules.specs.Distributed.{oneEach};
@@ -58,6 +58,26 @@ fn below(a: u64, b: u64) -> u64
     ensures { λ r. ⌜ r ≡ belowNumber a b ⌝ }
 {
     if a < b { 1 } else { 0 }
+}
+
+// 1 where they are the same, else 0.
+fn same(a: u64, b: u64) -> u64
+    ensures { λ r. ⌜ r ≡ sameNumber a b ⌝ }
+{
+    if a == b { 1 } else { 0 }
+}
+
+// "the largest remainders ..; of equal remainders the lower party number comes first": 1 where the other comes before, else 0.
+fn comes_before(other: u64, own: u64, lower: bool) -> u64
+    ensures { λ r. ⌜ r ≡ beforeNumber other own lower ⌝ }
+{
+    if own < other {
+        return 1;
+    }
+    if other < own {
+        return 0;
+    }
+    if lower { 1 } else { 0 }
 }
 
 // The larger of two.
@@ -118,28 +138,35 @@ fn threshold(rest: &[u64; 64], n: usize, left: u64) -> u64
     high
 }
 
-// "of equal remainders the lower party number comes first": 1 for a party at the threshold, as long as something is left to give, else 0.
-fn tied(own: u64, v: u64, spare: u64) -> u64
-    ensures { λ r. ⌜ r ≡ tiedNumber own v spare ⌝ }
+// "of equal remainders the lower party number comes first": the number below which those have one that have just v, where `spare` of them do.
+fn cut(rest: &[u64; 64], n: usize, v: u64, spare: u64) -> usize
+    requires { ⌜ n ≤ 64 ⌝ }
+    ensures { λ r. ⌜ Cut n (at (now (rest .entry))) v spare r ⌝ }
 {
-    if own == v { below(0, spare) } else { 0 }
+    let mut given = 0;
+    let mut i = 0;
+    while i < n {
+        if given == spare {
+            return i;
+        }
+        given += same(rest[i], v);
+        i += 1;
+    }
+    n
 }
 
-// "The Wh still left over go one each to the parties with the largest remainders": 1 for each of the `left` of n with the largest `rest`, else 0. Nothing
-// here knows of shares or Wh.
+// "The Wh still left over go one each to the parties with the largest remainders": 1 for each of the `left` of n with the largest `rest`, else 0: for those
+// that come before a place in that order, which is found without comparing each with all. Nothing here knows of shares or Wh.
 pub fn one_each(rest: &[u64; 64], n: usize, left: u64) -> [u64; 64]
     requires { ⌜ n ≤ 64 ⌝ }
     ensures { λ r. ⌜ Filled 0 (oneEach n (at (now (rest .entry))) left) n r ⌝ }
 {
     let v = threshold(rest, n, left);
-    let mut spare = left - above(rest, n, v);
+    let end = cut(rest, n, v, left - above(rest, n, v));
     let mut extra = [0u64; 64];
     let mut i = 0;
     while i < n {
-        let own = rest[i];
-        let tie = tied(own, v, spare);
-        extra[i] = below(v, own) + tie;
-        spare -= tie;
+        extra[i] = comes_before(rest[i], v, i < end);
         i += 1;
     }
     extra

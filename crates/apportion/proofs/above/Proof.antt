@@ -1,11 +1,9 @@
+-- `apportion::above` meets its contract: what it counted so far, with those below i, makes the whole count. Assumes nothing.
 use native.Mathlib.Omega.{arith}
 use borrow.Author.Needs.{needs}
 use Rattle.apportion.proofs.Thresholds.{Counting, count-start, count-next, count-end}
 use Rattle.apportion.proofs.above.Statement.{statement}
 use Rattle.apportion.proofs.above.Tie as tie
-use Rattle.apportion.proofs.above.Reads as reads
-use Rattle.apportion.proofs.above.Lts as lts
-use Rattle.apportion.proofs.below.Reads as below-reads
 
 abbrev Inv-loop : tie.InvT-loop
 Inv-loop rest n v over₀ i₀ over i = Counting rest n v over i
@@ -13,39 +11,30 @@ Inv-loop rest n v over₀ i₀ over i = Counting rest n v over i
 abbrev μ-loop : tie.MeasureT-loop
 μ-loop rest n v over₀ i₀ over i = i
 
--- src/lib.rt:91:5
 loop-holds : tie.Need-loop-holds Inv-loop μ-loop
 loop-holds c = count-start _ _ _
 
--- src/lib.rt:92:9
 sub-i : tie.Need-sub-i Inv-loop μ-loop
 sub-i c = search needs
 
--- src/lib.rt:93:26
 mul-below : tie.Need-mul-below Inv-loop μ-loop
 mul-below c = search needs
 
--- src/lib.rt:93:26
 element-copy-out-below : tie.Need-element-copy-out-below Inv-loop μ-loop
 element-copy-out-below c = search needs
 
--- src/lib.rt:93:17
 below-requires : tie.Need-below-requires Inv-loop μ-loop
 below-requires c κs = search needs
 
--- src/lib.rt:93:9
 add-over : tie.Need-add-over Inv-loop μ-loop
 add-over c = omega (arith, count-next (c .before .before .before .loop .inv) (omega arith) (c .below .ensures) .small)
 
--- src/lib.rt:91:5
 loop-less : tie.Need-loop-less Inv-loop μ-loop
 loop-less c = search needs
 
--- src/lib.rt:91:5
 loop-again : tie.Need-loop-again Inv-loop μ-loop
 loop-again c = count-next (c .before .before .before .loop .inv) (omega arith) (c .below .ensures)
 
--- src/lib.rt:85:1
 returns : tie.Need-returns Inv-loop μ-loop
 returns c = count-end (c .before .loop .inv) (omega arith)
 
