@@ -9,6 +9,7 @@ use native.Mathlib.Nat.{le-antisymm, le-trans, eq-or-lt-of-le, not-suc-le-zero}
 use native.Mathlib.Numerals.{add-one}
 use native.Mathlib.Omega.{arith}
 use borrow.Author.Tests.{eq-eqb, ne-eqb}
+use lib.Bits.{bitAnd, bitOr, or-add-and, and-le-l, and-le-r}
 use lib.Dec.{ltb}
 use lib.ListN.{getD}
 use Rattle.apportion.specs.Parts.{belowNumber, sameNumber, beforeNumber}
@@ -142,22 +143,27 @@ gets {n} {rest} {left} {v} {over} {cut} {i} threshold is c b =
     ∙ sym (less-one (rank n rest i) left (omega (arith, rank-over n rest v i b l, threshold .few)))))
     (three-ways (rest i) v)
 
--- A loop that has looked at the first i of n, for the largest of them.
-pub record Largest (rest : List ℕ) (n most i : ℕ) : Type 0 where
+pub bits-of-both : (a b : ℕ) → (a ≤ bitOr a b) × (b ≤ bitOr a b)
+bits-of-both a b =
+    let parts : bitOr a b + bitAnd a b ≡ a + b = or-add-and a b in
+    (omega (arith, and-le-r a b), omega (arith, and-le-l a b))
+
+-- A loop that has a value which none of the first i of n is above.
+pub record Bounded (rest : List ℕ) (n most i : ℕ) : Type 0 where
   pub bound : i ≤ n
   pub none : howManyAbove i (at rest) most ≡ 0
 
-pub largest-start : (rest : List ℕ) (n : ℕ) → Largest rest n 0 0
+pub bounded-start : (rest : List ℕ) (n : ℕ) → Bounded rest n 0 0
 unfolding howManyAbove count sum
-largest-start rest n = record { bound = zero-le; none = refl }
+bounded-start rest n = record { bound = zero-le; none = refl }
 
-pub largest-next : {rest : List ℕ} {n most i next : ℕ} → Largest rest n most i → i < n → (most ≤ next) × (getD rest i 0 ≤ next) → Largest rest n next (i + 1)
+pub bounded-next : {rest : List ℕ} {n most i next : ℕ} → Bounded rest n most i → i < n → (most ≤ next) × (getD rest i 0 ≤ next) → Bounded rest n next (i + 1)
 unfolding at
-largest-next {rest} {n} {most} {i} {next} l b h =
+bounded-next {rest} {n} {most} {i} {next} l b h =
     record { bound = omega arith; none = rw (add-one i) (omega (arith, above-one-more i (at rest) next, above-falls i (at rest) most next (h .0), less-zero next (getD rest i 0) (h .1), l .none)) }
 
-pub largest-end : {rest : List ℕ} {n most i : ℕ} → Largest rest n most i → n ≤ i → howManyAbove n (at rest) most ≡ 0
-largest-end {rest} {n} {most} {i} l b =
+pub bounded-end : {rest : List ℕ} {n most i : ℕ} → Bounded rest n most i → n ≤ i → howManyAbove n (at rest) most ≡ 0
+bounded-end {rest} {n} {most} {i} l b =
     let e : n ≡ i = le-antisymm b (l .bound) in
     ap (λ (k : ℕ). howManyAbove k (at rest) most) e ∙ l .none
 

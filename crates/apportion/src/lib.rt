@@ -80,25 +80,25 @@ fn comes_before(other: u64, own: u64, lower: bool) -> u64
     if lower { 1 } else { 0 }
 }
 
-// The larger of two.
-fn larger(a: u64, b: u64) -> u64
+// The bits of both: at least as much as either.
+fn bits_of_both(a: u64, b: u64) -> u64
     ensures { λ r. ⌜ (a ≤ r) × (b ≤ r) ⌝ }
 {
-    if a < b { b } else { a }
+    a | b
 }
 
-// The largest of the first n: none has more.
-fn largest(rest: &[u64; 64], n: usize) -> u64
+// A value that none of the first n is above: all their bits. It is below twice the largest, and a fourth as dear to find.
+fn bound(rest: &[u64; 64], n: usize) -> u64
     requires { ⌜ n ≤ 64 ⌝ }
     ensures { λ r. ⌜ howManyAbove n (at (now (rest .entry))) r ≡ 0 ⌝ }
 {
-    let mut most = 0;
+    let mut bits = 0;
     let mut i = 0;
     while i < n {
-        most = larger(most, rest[i]);
+        bits = bits_of_both(bits, rest[i]);
         i += 1;
     }
-    most
+    bits
 }
 
 // How many of the first n have more than v. From the last to the first: upwards the compiler takes two at a time, which costs it twice as much.
@@ -122,7 +122,7 @@ fn threshold(rest: &[u64; 64], n: usize, left: u64) -> u64
     ensures { λ r. ⌜ Threshold n (at (now (rest .entry))) left r ⌝ }
 {
     let mut low = 0;
-    let mut high = largest(rest, n);
+    let mut high = bound(rest, n);
     while low < high {
         let middle = low + (high - low) / 2;
         let over = above(rest, n, middle);

@@ -13,11 +13,11 @@ Inv-loop rest n left low₀ high₀ low high = Halving n (at rest) left low high
 abbrev μ-loop : tie.MeasureT-loop
 μ-loop rest n left low₀ high₀ low high = high - low
 
-largest-requires : tie.Need-largest-requires Inv-loop μ-loop
-largest-requires c κs = search needs
+bound-requires : tie.Need-bound-requires Inv-loop μ-loop
+bound-requires c κs = search needs
 
 loop-holds : tie.Need-loop-holds Inv-loop μ-loop
-loop-holds c = halving-start (omega arith) (c .largest .ensures)
+loop-holds c = halving-start (omega arith) (c .bound .ensures)
 
 sub-middle : tie.Need-sub-middle Inv-loop μ-loop
 sub-middle c = search needs
@@ -55,7 +55,7 @@ threshold-spec =
     (tie.spec
     Inv-loop
     μ-loop
-    largest-requires
+    bound-requires
     loop-holds
     sub-middle
     add-middle
