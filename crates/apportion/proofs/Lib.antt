@@ -1,4 +1,5 @@
 pub mod Order
+pub mod Thresholds
 pub mod Arrays
 pub mod Totals
 pub mod Step

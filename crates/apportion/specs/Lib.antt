@@ -1,5 +1,6 @@
 pub mod Filled
 pub mod Parts
+pub mod Threshold
 pub mod Good
 pub mod Service
 pub mod Demand

@@ -6,12 +6,16 @@ use lib.Dec.{eqb, ltb}
 use lib.IntN.{ℤ, pos, _-ℤ_}
 use Rattle.rules.specs.Words.{at}
 
+-- tests as numbers: whether a is below b, and whether they are the same
+abbrev pub belowNumber : ℕ → ℕ → ℕ
+belowNumber a b = cond (ltb a b) 1 0
+
+abbrev pub sameNumber : ℕ → ℕ → ℕ
+sameNumber a b = cond (eqb a b) 1 0
+
 -- the tie-break as a number, of two remainders and whether the other's number is the lower
 abbrev pub beforeNumber : ℕ → ℕ → Bool → ℕ
 beforeNumber other own lower = cond (ltb own other || (eqb other own && lower)) 1 0
-
-abbrev pub below : ℕ → ℕ → ℕ
-below rank left = cond (ltb rank left) 1 0
 
 -- the kept remainder and what the hour adds: remainder + share x residual
 unfoldable pub grownBy : List ℕ → List ℕ → ℕ → ℕ → ℕ

@@ -12,10 +12,11 @@ ghost use lib.IntN.{pos};
 ghost use lib.ListN.{length};
 ghost use Rattle.apportion.specs.Filled.{Filled};
 ghost use Rattle.apportion.specs.Good.{Startable, Started, Ready, Next};
-ghost use Rattle.apportion.specs.Parts.{beforeNumber, below, grownBy, quotientBy, restBy, figureBy, minus, SmallParts};
+ghost use Rattle.apportion.specs.Parts.{belowNumber, sameNumber, beforeNumber, grownBy, quotientBy, restBy, figureBy, minus, SmallParts};
+ghost use Rattle.apportion.specs.Threshold.{howManyAbove, Threshold, Cut};
 ghost use Rattle.answer.specs.Said.{said};
 ghost use Rattle.apportion.specs.Service.{shapeVerdict, wVerdict, FewShares, FilledOn, Distributable};
-ghost use Rattle.rules.specs.Distributed.{rank, oneEach};
+ghost use Rattle.rules.specs.Distributed.{oneEach};
 ghost use Rattle.rules.specs.Refusals.{first, afterwards};
 ghost use Rattle.rules.specs.Services.{distributionChecks, distributionFigures};
 ghost use Rattle.rules.specs.Words.{at, sum};
@@ -52,10 +53,23 @@ pub struct Carries {
     pub figures: [i64; 64],
 }
 
+// 1 where a is below b, else 0.
+fn below(a: u64, b: u64) -> u64
+    ensures { λ r. ⌜ r ≡ belowNumber a b ⌝ }
+{
+    if a < b { 1 } else { 0 }
+}
+
+// 1 where they are the same, else 0.
+fn same(a: u64, b: u64) -> u64
+    ensures { λ r. ⌜ r ≡ sameNumber a b ⌝ }
+{
+    if a == b { 1 } else { 0 }
+}
+
 // "the largest remainders ..; of equal remainders the lower party number comes first": 1 where the other comes before, else 0.
 fn comes_before(other: u64, own: u64, lower: bool) -> u64
-    ensures number { λ r. ⌜ r ≡ beforeNumber other own lower ⌝ }
-    ensures small { λ r. ⌜ r ≤ 1 ⌝ }
+    ensures { λ r. ⌜ r ≡ beforeNumber other own lower ⌝ }
 {
     if own < other {
         return 1;
@@ -66,38 +80,93 @@ fn comes_before(other: u64, own: u64, lower: bool) -> u64
     if lower { 1 } else { 0 }
 }
 
-// How many of the first n come before i.
-fn rank_of(rest: &[u64; 64], n: usize, i: usize) -> u64
-    requires { ⌜ (n ≤ 64) × (i < 64) ⌝ }
-    ensures { λ r. ⌜ r ≡ rank n (at (now (rest .entry))) i ⌝ }
+// The bits of both: at least as much as either.
+fn bits_of_both(a: u64, b: u64) -> u64
+    ensures { λ r. ⌜ (a ≤ r) × (b ≤ r) ⌝ }
 {
-    let own = rest[i];
-    let mut before = 0;
-    let mut j = 0;
-    while j < n {
-        before += comes_before(rest[j], own, j < i);
-        j += 1;
+    a | b
+}
+
+// A value that none of the first n is above: all their bits. It is below twice the largest, and a fourth as dear to find.
+fn bound(rest: &[u64; 64], n: usize) -> u64
+    requires { ⌜ n ≤ 64 ⌝ }
+    ensures { λ r. ⌜ howManyAbove n (at (now (rest .entry))) r ≡ 0 ⌝ }
+{
+    let mut bits = 0;
+    let mut i = 0;
+    while i < n {
+        bits = bits_of_both(bits, rest[i]);
+        i += 1;
     }
-    before
+    bits
 }
 
-// 1 where the rank is below what is left, else 0.
-fn one_of(rank: u64, left: u64) -> u64
-    ensures { λ r. ⌜ r ≡ below rank left ⌝ }
+// How many of the first n have more than v. From the last to the first: upwards the compiler takes two at a time, which costs it twice as much.
+fn above(rest: &[u64; 64], n: usize, v: u64) -> u64
+    requires { ⌜ n ≤ 64 ⌝ }
+    ensures { λ r. ⌜ r ≡ howManyAbove n (at (now (rest .entry))) v ⌝ }
 {
-    if rank < left { 1 } else { 0 }
+    let mut over = 0;
+    let mut i = n;
+    while 0 < i {
+        i -= 1;
+        over += below(v, rest[i]);
+    }
+    over
 }
 
-// "The Wh still left over go one each to the parties with the largest remainders": 1 for each of the `left` of n with the largest `rest`, else 0. Nothing
-// here knows of shares or Wh.
+// A value that parts those who have one from those who have none, by halving. It stops where just `left` have more: of remainders that differ, that is so
+// long before the halves are single values.
+fn threshold(rest: &[u64; 64], n: usize, left: u64) -> u64
+    requires { ⌜ n ≤ 64 ⌝ }
+    ensures { λ r. ⌜ Threshold n (at (now (rest .entry))) left r ⌝ }
+{
+    let mut low = 0;
+    let mut high = bound(rest, n);
+    while low < high {
+        let middle = low + (high - low) / 2;
+        let over = above(rest, n, middle);
+        if over == left {
+            return middle;
+        }
+        if left < over {
+            low = middle + 1;
+        } else {
+            high = middle;
+        }
+    }
+    high
+}
+
+// "of equal remainders the lower party number comes first": the number below which those have one that have just v, where `spare` of them do.
+fn cut(rest: &[u64; 64], n: usize, v: u64, spare: u64) -> usize
+    requires { ⌜ n ≤ 64 ⌝ }
+    ensures { λ r. ⌜ Cut n (at (now (rest .entry))) v spare r ⌝ }
+{
+    let mut given = 0;
+    let mut i = 0;
+    while i < n {
+        if given == spare {
+            return i;
+        }
+        given += same(rest[i], v);
+        i += 1;
+    }
+    n
+}
+
+// "The Wh still left over go one each to the parties with the largest remainders": 1 for each of the `left` of n with the largest `rest`, else 0: for those
+// that come before a place in that order, which is found without comparing each with all. Nothing here knows of shares or Wh.
 pub fn one_each(rest: &[u64; 64], n: usize, left: u64) -> [u64; 64]
     requires { ⌜ n ≤ 64 ⌝ }
     ensures { λ r. ⌜ Filled 0 (oneEach n (at (now (rest .entry))) left) n r ⌝ }
 {
+    let v = threshold(rest, n, left);
+    let end = cut(rest, n, v, left - above(rest, n, v));
     let mut extra = [0u64; 64];
     let mut i = 0;
     while i < n {
-        extra[i] = one_of(rank_of(rest, n, i), left);
+        extra[i] = comes_before(rest[i], v, i < end);
         i += 1;
     }
     extra

@@ -1,29 +1,44 @@
--- `apportion::one_each` meets its contract: the first i places hold what the first i get. Assumes nothing.
+-- `apportion::one_each` meets its contract: the first i places hold what the first i get, which are those that come before the threshold and the cut. Assumes nothing.
+use mathlib.Core.Path.{_∙_}
 use Prim.Native.Nat.{_-_}
+use native.Mathlib.Omega.{arith}
+use borrow.Author.Needs.{needs}
 use Rattle.apportion.proofs.Arrays.{Upto, upto-start, upto-next, upto-end}
-use Rattle.apportion.specs.Parts.{below}
+use Rattle.apportion.proofs.Thresholds.{gets}
 use Rattle.rules.specs.Distributed.{oneEach}
 use Rattle.rules.specs.Words.{at}
-use borrow.Author.Needs.{needs}
-use mathlib.Core.Path.{_∙_, ap}
-use native.Mathlib.Omega.{arith}
 use Rattle.apportion.proofs.one_each.Statement.{statement}
 use Rattle.apportion.proofs.one_each.Tie as tie
 
 abbrev Inv-loop : tie.InvT-loop
-Inv-loop rest n left extra₀ i₀ extra i = Upto 0 (oneEach n (at rest) left) n i extra
+Inv-loop rest n left v end extra₀ i₀ extra i = Upto 0 (oneEach n (at rest) left) n i extra
 
 abbrev μ-loop : tie.MeasureT-loop
-μ-loop rest n left extra₀ i₀ extra i = n - i
+μ-loop rest n left v end extra₀ i₀ extra i = n - i
+
+threshold-requires : tie.Need-threshold-requires Inv-loop μ-loop
+threshold-requires c κs = search needs
+
+above-requires : tie.Need-above-requires Inv-loop μ-loop
+above-requires c κs = search needs
+
+sub-cut : tie.Need-sub-cut Inv-loop μ-loop
+sub-cut c = omega (arith, c .above .ensures, c .before .threshold .ensures .few)
+
+cut-requires : tie.Need-cut-requires Inv-loop μ-loop
+cut-requires c κs = search needs
 
 loop-holds : tie.Need-loop-holds Inv-loop μ-loop
 loop-holds c = upto-start 0 _ _
 
-rank-of-requires : tie.Need-rank-of-requires Inv-loop μ-loop
-rank-of-requires c κs = search needs
+mul-comes-before : tie.Need-mul-comes-before Inv-loop μ-loop
+mul-comes-before c = search needs
 
-one-of-requires : tie.Need-one-of-requires Inv-loop μ-loop
-one-of-requires c κs = search needs
+element-copy-out-comes-before : tie.Need-element-copy-out-comes-before Inv-loop μ-loop
+element-copy-out-comes-before c = search needs
+
+comes-before-requires : tie.Need-comes-before-requires Inv-loop μ-loop
+comes-before-requires c κs = search needs
 
 mul-extra : tie.Need-mul-extra Inv-loop μ-loop
 mul-extra c = search needs
@@ -38,8 +53,11 @@ loop-less : tie.Need-loop-less Inv-loop μ-loop
 loop-less c = search needs
 
 loop-again : tie.Need-loop-again Inv-loop μ-loop
-unfolding oneEach
-loop-again c = upto-next (c .before .before .before .loop .inv) (omega arith) (omega arith) (c .one-of .ensures ∙ rw (c .before .rank-of .ensures))
+unfolding at
+loop-again c =
+    upto-next (c .before .before .before .loop .inv) (omega arith) (omega arith)
+    (c .comes-before .ensures
+    ∙ gets (c .before .before .before .before .before .before .threshold .ensures) (c .before .before .before .before .before .above .ensures) (c .before .before .before .before .cut .ensures) (omega arith))
 
 returns : tie.Need-returns Inv-loop μ-loop
 returns c = upto-end (c .before .loop .inv) (omega arith)
@@ -50,9 +68,14 @@ one-each-spec =
     (tie.spec
     Inv-loop
     μ-loop
+    threshold-requires
+    above-requires
+    sub-cut
+    cut-requires
     loop-holds
-    rank-of-requires
-    one-of-requires
+    mul-comes-before
+    element-copy-out-comes-before
+    comes-before-requires
     mul-extra
     array-write-extra
     add-i
