@@ -1,8 +1,9 @@
 //! The comparison of another statement program with this one, byte for byte, over the files of a seed.
 //!
-//! A file reaches the program in one piece, being its standard input, or in small pieces through a pipe, each given only
-//! once the one before has been read: then no read gets more than a piece.
+//! A file reaches the program in one piece, being its standard input, or in several through a pipe, each given only once
+//! the one before has been read: then no read gets more than a piece.
 
+use std::collections::BTreeSet;
 use std::ffi::{c_int, c_ulong};
 use std::fs::{self, File};
 use std::io::{self, ErrorKind, Read, Write};
@@ -20,8 +21,8 @@ use crate::statement::printed;
 /// More than any statement: what a program prints beyond it is not waited for.
 const OUTPUT_BYTES_MAX: u64 = 1 << 20;
 
-/// Pieces are of any size up to this, small ones as common as large ones; a pipe takes it at once.
-const PIECE_BYTES_MAX: u64 = 4_096;
+/// A file has 1 to so many cuts. Each piece costs a change of processes, which takes long on a busy machine.
+const CUTS_MAX: usize = 8;
 
 /// How a file reaches the program.
 #[derive(Clone, Copy, Debug, PartialEq, Eq)]
@@ -44,7 +45,7 @@ impl Feed {
     fn words(self) -> &'static str {
         match self {
             Feed::Whole => "in one piece",
-            Feed::Pieces => "in small pieces",
+            Feed::Pieces => "in pieces",
         }
     }
 }
@@ -169,7 +170,7 @@ fn run(program: &Path, input: impl Into<Stdio>) -> Run {
     Ok((output, child.wait()?))
 }
 
-/// What the program prints for these bytes when they come in small pieces, and how it ends.
+/// What the program prints for these bytes when they come in pieces, and how it ends.
 fn run_on_pieces(program: &Path, bytes: &[u8], random: Random) -> Run {
     let mut child = command(program, Stdio::piped()).spawn()?;
     let (input, output) = (child.stdin.take(), child.stdout.take());
@@ -208,14 +209,13 @@ fn read_output(output: Option<impl Read>) -> io::Result<Vec<u8>> {
 /// Writes the bytes piece by piece. A program that has printed everything, or reads no further, gets no more of them.
 fn feed_pieces(
     mut pipe: ChildStdin,
-    mut bytes: &[u8],
+    bytes: &[u8],
     mut random: Random,
     has_printed: &AtomicBool,
 ) -> io::Result<()> {
-    while !bytes.is_empty() {
-        let length = 1 + random.any_size(PIECE_BYTES_MAX - 1) as usize;
-        let (piece, rest) = bytes.split_at(length.min(bytes.len()));
-        match pipe.write_all(piece) {
+    let mut begin = 0;
+    for end in piece_ends(bytes.len(), &mut random) {
+        match pipe.write_all(&bytes[begin..end]) {
             Err(error) if error.kind() == ErrorKind::BrokenPipe => return Ok(()),
             written => written?,
         }
@@ -225,9 +225,22 @@ fn feed_pieces(
             }
             thread::yield_now();
         }
-        bytes = rest;
+        begin = end;
     }
     Ok(())
+}
+
+/// Where the pieces of so many bytes end, rising up to the last byte: cuts anywhere, and near either end.
+fn piece_ends(length: usize, random: &mut Random) -> BTreeSet<usize> {
+    let cuts = 1 + random.below(CUTS_MAX);
+    let mut ends = BTreeSet::from([length]);
+    for _ in 0..cuts {
+        let near = random.any_size(length as u64) as usize;
+        let anywhere = random.below(length + 1);
+        ends.insert(*random.pick(&[near, length - near, anywhere]));
+    }
+    ends.remove(&0);
+    ends
 }
 
 extern "C" {
@@ -265,4 +278,23 @@ pub fn first_difference(expected: &[u8], printed: &[u8]) -> String {
         shown(&expected),
         shown(&printed)
     )
+}
+
+#[cfg(test)]
+mod tests {
+    use super::*;
+
+    #[test]
+    fn pieces_rise_to_the_whole() {
+        let random = &mut Random::of_file(1, 2);
+        assert!(piece_ends(0, random).is_empty());
+        assert_eq!(piece_ends(1, random), BTreeSet::from([1]));
+        let many: Vec<_> = (0..500).map(|_| piece_ends(65_536, random)).collect();
+        assert!(many.iter().all(|ends| ends.last() == Some(&65_536)));
+        assert!(many.iter().all(|ends| ends.len() <= CUTS_MAX + 1));
+        // The first byte alone, the last alone, and more than two pieces.
+        assert!(many.iter().any(|ends| ends.contains(&1)));
+        assert!(many.iter().any(|ends| ends.contains(&65_535)));
+        assert!(many.iter().any(|ends| ends.len() > 2));
+    }
 }

@@ -2,6 +2,8 @@
 
 mod common;
 
+use std::process::{Command, Output};
+
 use common::{assert_accepted, assert_refused};
 use second::bench::{bench_file, Fault, Readings, Size};
 use second::limits::FILE_BYTES_MAX;
@@ -66,4 +68,43 @@ fn a_fault_shows_at_the_last_byte_only() {
     let last = good.len() - 1;
     assert_eq!(counted[..last], good[..last]);
     assert_refused(&counted, 15, end);
+}
+
+fn command(line: &str) -> Output {
+    Command::new(env!("CARGO_BIN_EXE_second"))
+        .args(line.split(' '))
+        .output()
+        .unwrap()
+}
+
+#[test]
+fn the_command_writes_the_file() {
+    let line = "bench-file --hours 3 --parties 2 --series refixed --readings 4 --span 2";
+    let size = size(3, 2, true, Readings::Count(4), 2);
+    assert_eq!(command(line).stdout, bench_file(&size, None));
+    for (word, fault) in [("byte", Fault::ByteAfter), ("count", Fault::Count)] {
+        let printed = command(&format!("{line} --fault {word}"));
+        assert_eq!(printed.stdout, bench_file(&size, Some(fault)));
+    }
+    let most = command("bench-file --hours 1 --parties 4 --series fixed --readings most --span 1");
+    assert_eq!(most.stdout.len(), FILE_BYTES_MAX);
+}
+
+#[test]
+fn sizes_that_no_file_has_are_not_made() {
+    for line in [
+        "bench-file --hours 0 --parties 2 --series fixed --readings 4 --span 1",
+        "bench-file --hours 746 --parties 2 --series fixed --readings 4 --span 1",
+        "bench-file --hours 3 --parties 65 --series fixed --readings 4 --span 1",
+        "bench-file --hours 3 --parties 2 --series both --readings 4 --span 1",
+        "bench-file --hours 3 --parties 2 --series fixed --readings some --span 1",
+        "bench-file --hours 3 --parties 2 --series fixed --readings 4 --span 4",
+        "bench-file --hours 3 --parties 2 --series fixed --readings 6600 --span 1",
+        "bench-file --hours 3 --parties 2 --series fixed --readings 4 --span 1 --fault none",
+    ] {
+        let printed = command(line);
+        assert!(printed.stdout.is_empty(), "{line}");
+        assert!(!printed.stderr.is_empty(), "{line}");
+        assert_eq!(printed.status.code(), Some(1), "{line}");
+    }
 }

@@ -230,10 +230,10 @@ fn script(directory: &Path, text: &str) -> PathBuf {
 
 const BOTH: &[Feed] = &[Feed::Whole, Feed::Pieces];
 
-/// This program itself, after these lines of shell.
-fn itself(directory: &Path, first: &str) -> PathBuf {
+/// This program itself.
+fn itself(directory: &Path) -> PathBuf {
     let second = env!("CARGO_BIN_EXE_second");
-    script(directory, &format!("{first}\nexec '{second}' statement"))
+    script(directory, &format!("exec '{second}' statement"))
 }
 
 fn check(
@@ -256,7 +256,7 @@ fn check(
 #[test]
 fn check_accepts_this_program_itself() {
     let directory = temporary("itself");
-    let program = itself(&directory, "");
+    let program = itself(&directory);
     let tally = check(&program, 6, 200, BOTH, 1).unwrap();
     assert_eq!(tally.complete(), Ok(()));
     // The same files on three threads.
@@ -279,7 +279,7 @@ fn check_tells_the_first_difference_and_leaves_the_file() {
     let program = script(&directory, "cat > /dev/null; echo refused 1 at 0");
     for (feeds, words, threads) in [
         (BOTH, "in one piece", 1),
-        (&BOTH[1..], "in small pieces", 1),
+        (&BOTH[1..], "in pieces", 1),
         (BOTH, "in one piece", 4),
     ] {
         let message = check(&program, 7, 200, feeds, threads).err().unwrap();
@@ -308,7 +308,7 @@ fn check_finds_a_program_that_takes_the_first_piece_for_the_file() {
     );
     assert!(check(&program, 11, 60, &BOTH[..1], 1).is_ok());
     let message = check(&program, 11, 60, BOTH, 2).err().unwrap();
-    assert!(message.contains("in small pieces"), "{message}");
+    assert!(message.contains("in pieces"), "{message}");
     let number = message.split("file ").nth(1).unwrap();
     let number = number.split(' ').next().unwrap().parse().unwrap();
     assert_left(&message, &file(11, number));
@@ -345,6 +345,35 @@ fn check_minds_how_the_program_ends() {
         .unwrap();
     assert!(message.contains("none: No such file"), "{message}");
     assert_left(&message, &file(15, 0));
+    fs::remove_dir_all(directory).unwrap();
+}
+
+#[test]
+fn the_check_command_fails_where_something_did_not_occur() {
+    let directory = temporary("command");
+    let program = itself(&directory);
+    let command = |seed: &str, count: &str, more: &[&str]| {
+        Command::new(env!("CARGO_BIN_EXE_second"))
+            .args(["check", "--seed", seed, "--count", count, "--program"])
+            .arg(&program)
+            .args(more)
+            .output()
+            .unwrap()
+    };
+    let all = command("16", "200", &["--threads", "2"]);
+    let text = String::from_utf8(all.stdout).unwrap();
+    assert!(
+        text.contains("seed 16: 200 files, none differs (both, "),
+        "{text}"
+    );
+    assert!(all.status.success());
+    let few = command("16", "3", &["--feed", "whole"]);
+    let message = String::from_utf8(few.stderr).unwrap();
+    assert!(message.starts_with("did not occur: refused "), "{message}");
+    assert_eq!(few.status.code(), Some(1));
+    for more in [["--feed", "half"], ["--threads", "many"]] {
+        assert_eq!(command("16", "3", &more).status.code(), Some(1));
+    }
     fs::remove_dir_all(directory).unwrap();
 }
 
