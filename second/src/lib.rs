@@ -18,8 +18,8 @@
 //! | `statement` | "The statement program" |
 //!
 //! The rest makes files to judge by: `random` (seeded numbers), `draft` (a month that can be edited), `make` and
-//! `damage` (months of every shape and with every fault), `examples` (the stored ones) and `check` (comparing another
-//! program with this one).
+//! `damage` (months of every shape and with every fault), `examples` (the stored ones), `check` (comparing another
+//! program with this one) and `bench` (months of a chosen size, to count instructions on).
 //!
 //! Every public service (`residual::residual`, `residual::curve`, `distribution::distribution`,
 //! `periodisation::periodisation`, `reconciliation::reconciliation`, `reconciliation::invoice_ore`, `record::read_alone`,
@@ -27,6 +27,7 @@
 //! and has an answer for every machine value. A service that 01 lends an output takes its length and hands back the
 //! figures, so that refused calls have nothing to write into.
 
+pub mod bench;
 pub mod check;
 pub mod damage;
 pub mod distribution;

@@ -2,20 +2,26 @@
 //!
 //! - `second statement < FILE` prints what the statement program prints.
 //! - `second make --seed S --count N --out DIR` writes month files and their expected output.
-//! - `second check --program PATH --seed S --count N` compares another statement program with this one.
+//! - `second check --program PATH --seed S --count N` compares another statement program with this one; a long campaign is
+//!   run with `--threads T`, and with `--feed whole` (or `pieces`) instead of both.
 //! - `second example NAME` writes the month file of an example (s1, full, silent).
+//! - `second bench-file ..` writes a month file of a chosen size (bench/README.md).
 
 use std::io::{self, Read, Write};
 use std::path::Path;
 use std::process::ExitCode;
+use std::time::Instant;
 
-use second::limits::FILE_BYTES_MAX;
-use second::{check, examples, make, statement};
+use second::bench::{bench_file, Fault, Readings, Size};
+use second::check::{Check, Feed};
+use second::limits::{FILE_BYTES_MAX, HOURS, PARTIES};
+use second::{examples, make, statement};
 
 const USAGE: &str = "usage: second statement < FILE
        second make --seed S --count N --out DIR
-       second check --program PATH --seed S --count N
-       second example s1|full|silent";
+       second check --program PATH --seed S --count N [--feed whole|pieces|both] [--threads T]
+       second example s1|full|silent
+       second bench-file --hours H --parties P --series fixed|refixed --readings N|most --span HOURS [--fault byte|count]";
 
 fn main() -> ExitCode {
     let arguments: Vec<String> = std::env::args().skip(1).collect();
@@ -25,6 +31,7 @@ fn main() -> ExitCode {
         ["make", ref options @ ..] => make_files(options),
         ["check", ref options @ ..] => check_program(options),
         ["example", name] => print_example(name),
+        ["bench-file", ref options @ ..] => print_bench_file(options),
         _ => Err(USAGE.to_string()),
     };
     match done {
@@ -70,12 +77,58 @@ fn make_files(options: &[&str]) -> Result<(), String> {
 }
 
 fn check_program(options: &[&str]) -> Result<(), String> {
-    let seed = number(options, "--seed")?;
-    let count = number(options, "--count")?;
-    let program = option(options, "--program")?;
-    let tally = check::check(Path::new(program), seed, count)?;
+    let feed = option(options, "--feed").unwrap_or("both");
+    let check = Check {
+        program: Path::new(option(options, "--program")?),
+        seed: number(options, "--seed")?,
+        count: number(options, "--count")?,
+        feeds: Feed::named(feed).ok_or(USAGE)?,
+        threads: match option(options, "--threads") {
+            Ok(_) => number(options, "--threads")?,
+            Err(_) => 1,
+        },
+    };
+    let start = Instant::now();
+    let tally = check.run()?;
     print_bytes(tally.to_string().as_bytes())?;
-    tally.complete()
+    tally.complete()?;
+    let seconds = start.elapsed().as_secs();
+    let (seed, count) = (check.seed, check.count);
+    let summary = format!("seed {seed}: {count} files, none differs ({feed}, {seconds} s)\n");
+    print_bytes(summary.as_bytes())
+}
+
+fn print_bench_file(options: &[&str]) -> Result<(), String> {
+    let within = |name: &str, most: i128| match number(options, name)? {
+        value if (1..=most).contains(&i128::from(value)) => Ok(value as usize),
+        value => Err(format!("{name} {value} is not from 1 to {most}")),
+    };
+    let hours = within("--hours", *HOURS.end())?;
+    let size = Size {
+        hours,
+        parties: within("--parties", *PARTIES.end())?,
+        refixed: match option(options, "--series")? {
+            "fixed" => false,
+            "refixed" => true,
+            _ => return Err(USAGE.to_string()),
+        },
+        readings: match option(options, "--readings")? {
+            "most" => Readings::Most,
+            _ => Readings::Count(number(options, "--readings")? as usize),
+        },
+        span: within("--span", hours as i128)?,
+    };
+    let fault = match option(options, "--fault") {
+        Err(_) => None,
+        Ok("byte") => Some(Fault::ByteAfter),
+        Ok("count") => Some(Fault::Count),
+        Ok(_) => return Err(USAGE.to_string()),
+    };
+    let file = bench_file(&size, fault);
+    if file.len() > FILE_BYTES_MAX {
+        return Err(format!("{} bytes are too many for a file", file.len()));
+    }
+    print_bytes(&file)
 }
 
 /// The value that follows an option's name.

@@ -14,16 +14,16 @@ use crate::damage;
 use crate::draft::{measured_hour, prices_of, Draft, DraftParty};
 use crate::gln::{with_check_digit, Gln};
 use crate::limits::{
-    CURVE_FACTOR, CURVE_NUMBER_MAX, FILE_BYTES_MAX, READING_WH_MAX, RESIDUAL_WH_MAX,
-    STATUS_ESTIMATED, STATUS_MEASURED,
+    CURVE_FACTOR, CURVE_NUMBER_MAX, FILE_BYTES_MAX, HOURS, PARTIES, READING_WH_MAX,
+    RESIDUAL_WH_MAX, STATUS_ESTIMATED, STATUS_MEASURED,
 };
-use crate::month::settle;
+use crate::month::{settle, Month};
 use crate::periodisation::periodised_wh;
 use crate::random::Random;
 use crate::record::{Heading, HourFlows, Reading};
 use crate::refusal::Refusal;
 use crate::residual::{curve_number, residual_wh};
-use crate::statement::statement;
+use crate::statement::printed;
 
 /// What the maker of a file meant it to give. The expected output comes from the file itself; the tests hold the two
 /// against each other.
@@ -42,13 +42,6 @@ pub struct MadeFile {
     pub name: &'static str,
     pub bytes: Vec<u8>,
     pub aim: Aim,
-}
-
-impl MadeFile {
-    /// What the statement program must print for it.
-    pub fn expected(&self) -> String {
-        statement(&self.bytes)
-    }
 }
 
 /// The file of this number of a seed.
@@ -81,8 +74,9 @@ pub fn write_files(seed: u64, count: u64, directory: &Path) -> io::Result<Tally>
     for made in files(seed, count) {
         let path = directory.join(format!("{:07}.month", made.number));
         fs::write(&path, &made.bytes)?;
-        fs::write(path.with_extension("expected"), made.expected())?;
-        tally.count(&made.bytes);
+        let judged = settle(&made.bytes);
+        fs::write(path.with_extension("expected"), printed(&judged))?;
+        tally.count(&judged);
     }
     Ok(tally)
 }
@@ -91,32 +85,54 @@ pub fn write_files(seed: u64, count: u64, directory: &Path) -> io::Result<Tally>
 #[derive(Default)]
 pub struct Tally {
     pub accepted: u64,
+    /// Of the accepted ones, those of `HOURS` and `PARTIES` at their most.
+    pub of_full_size: u64,
     /// By refusal number; a file gives 1 to 15.
     pub refused: [u64; 16],
 }
 
 impl Tally {
-    pub fn count(&mut self, file: &[u8]) {
-        match settle(file) {
-            Ok(_) => self.accepted += 1,
+    pub fn count(&mut self, judged: &Result<Month, Refusal>) {
+        match judged {
+            Ok(month) => {
+                let heading = &month.file.heading;
+                self.accepted += 1;
+                self.of_full_size += u64::from(
+                    i128::from(heading.hours) == *HOURS.end()
+                        && i128::from(heading.parties) == *PARTIES.end(),
+                );
+            }
             Err(refusal) => self.refused[refusal.number as usize] += 1,
         }
     }
 
-    /// Fails, naming them, if some of the refusals 1 to 15 did not occur.
+    /// Adds what another tally has counted.
+    pub fn add(&mut self, other: &Tally) {
+        self.accepted += other.accepted;
+        self.of_full_size += other.of_full_size;
+        for (count, more) in self.refused.iter_mut().zip(other.refused) {
+            *count += more;
+        }
+    }
+
+    /// Fails, naming them, if some of the refusals 1 to 15 did not occur, or no accepted month of full size or none of
+    /// less.
     pub fn complete(&self) -> Result<(), String> {
         let numbers = 1..self.refused.len();
-        let missing: Vec<String> = numbers
+        let mut missing: Vec<String> = numbers
             .filter(|&number| self.refused[number] == 0)
-            .map(|number| number.to_string())
+            .map(|number| format!("refused {number}"))
             .collect();
+        if self.accepted == self.of_full_size {
+            missing.push("accepted, small".to_string());
+        }
+        if self.of_full_size == 0 {
+            missing.push("accepted, of full size".to_string());
+        }
         if missing.is_empty() {
             Ok(())
         } else {
-            Err(format!(
-                "refusals that did not occur: {}",
-                missing.join(", ")
-            ))
+            Err(format!("did not occur: {}", missing.join("; ")))
         }
     }
 }
@@ -126,7 +142,11 @@ impl fmt::Display for Tally {
         for (number, count) in self.refused.iter().enumerate().skip(1) {
             writeln!(out, "refused {number}: {count}")?;
         }
-        writeln!(out, "accepted: {}", self.accepted)
+        writeln!(
+            out,
+            "accepted: {}, of which of full size: {}",
+            self.accepted, self.of_full_size
+        )
     }
 }
 

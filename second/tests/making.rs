@@ -4,14 +4,18 @@ mod common;
 
 use std::collections::BTreeSet;
 use std::fs;
+use std::io::ErrorKind;
 use std::os::unix::fs::PermissionsExt;
 use std::path::{Path, PathBuf};
+use std::process::{Command, Stdio};
 
-use second::check::{check, first_difference};
+use second::check::{first_difference, Check, Feed};
 use second::damage::{BYTES_FAULTS, DRAFT_FAULTS, RANDOM_DAMAGES};
 use second::limits::FILE_BYTES_MAX;
-use second::make::{file, files, write_files, Aim, MadeFile, Tally, SHAPES};
+use second::make::{file, files, month, write_files, Aim, MadeFile, Tally, SHAPES};
 use second::month::{settle, Month};
+use second::random::Random;
+use second::statement::statement;
 
 /// What the maker meant and what the reader says, each from its own side.
 #[test]
@@ -32,22 +36,38 @@ fn every_aim_is_met() {
 }
 
 #[test]
-fn all_refusals_occur_in_200_files() {
+fn all_refusals_and_sizes_occur_in_200_files() {
     for seed in 0..5 {
         let mut tally = Tally::default();
-        files(seed, 200).for_each(|made| tally.count(&made.bytes));
+        files(seed, 200).for_each(|made| tally.count(&settle(&made.bytes)));
         assert_eq!(tally.complete(), Ok(()), "seed {seed}");
     }
 }
 
 #[test]
-fn a_missing_refusal_is_named() {
+fn what_did_not_occur_is_named() {
     let mut tally = Tally::default();
-    tally.count(&[]);
-    assert_eq!(
-        tally.complete(),
-        Err("refusals that did not occur: 2, 3, 4, 5, 6, 7, 8, 9, 10, 11, 12, 13, 14, 15".into())
+    tally.count(&settle(&[]));
+    let missing = tally.complete().unwrap_err();
+    assert!(
+        missing.starts_with("did not occur: refused 2; refused 3; "),
+        "{missing}"
     );
+    assert!(
+        missing.ends_with("; refused 15; accepted, small; accepted, of full size"),
+        "{missing}"
+    );
+    // Full size is 745 hours and 64 parties: either alone is small.
+    let random = &mut Random::of_file(1, 1);
+    for (hours, parties) in [(744, 64), (745, 63), (745, 64)] {
+        tally.count(&settle(&month(random, hours, parties, true, 2).bytes()));
+    }
+    assert_eq!((tally.accepted, tally.of_full_size), (3, 1));
+    let mut twice = Tally::default();
+    twice.add(&tally);
+    twice.add(&tally);
+    assert_eq!((twice.accepted, twice.of_full_size), (6, 2));
+    assert_eq!(twice.refused[1], 2);
 }
 
 #[test]
@@ -167,7 +187,7 @@ fn seed_and_number_decide_a_file() {
 /// seed 1234567.
 #[test]
 fn the_generator_is_splitmix64() {
-    let first = second::random::Random::of_file(1_234_567, 0).bits();
+    let first = Random::of_file(1_234_567, 0).bits();
     // The stream of file 0 starts from the seed's first number.
     let mut state = 6_457_827_717_110_365_317u64;
     state = state.wrapping_add(0x9E37_79B9_7F4A_7C15);
@@ -192,49 +212,168 @@ fn files_are_written_beside_their_expected_output() {
         let path = directory.join(format!("{:07}.month", made.number));
         assert_eq!(fs::read(&path).unwrap(), made.bytes);
         let expected = fs::read_to_string(path.with_extension("expected")).unwrap();
-        assert_eq!(expected, made.expected());
+        assert_eq!(expected, statement(&made.bytes));
     }
     fs::remove_dir_all(directory).unwrap();
 }
 
-/// A program that is a shell script of this text.
+/// A program that is a shell script of this text. It is run once: another test's child can have the file open for writing
+/// until it has started its own program, and while it has, this one does not start.
 fn script(directory: &Path, text: &str) -> PathBuf {
     let path = directory.join("program");
     fs::write(&path, format!("#!/bin/sh\n{text}\n")).unwrap();
     fs::set_permissions(&path, fs::Permissions::from_mode(0o755)).unwrap();
+    let run = || Command::new(&path).stdin(Stdio::null()).output();
+    while run().is_err_and(|error| error.kind() == ErrorKind::ExecutableFileBusy) {}
     path
+}
+
+const BOTH: &[Feed] = &[Feed::Whole, Feed::Pieces];
+
+/// This program itself.
+fn itself(directory: &Path) -> PathBuf {
+    let second = env!("CARGO_BIN_EXE_second");
+    script(directory, &format!("exec '{second}' statement"))
+}
+
+fn check(
+    program: &Path,
+    seed: u64,
+    count: u64,
+    feeds: &[Feed],
+    threads: u64,
+) -> Result<Tally, String> {
+    let check = Check {
+        program,
+        seed,
+        count,
+        feeds,
+        threads,
+    };
+    check.run()
 }
 
 #[test]
 fn check_accepts_this_program_itself() {
     let directory = temporary("itself");
-    let program = script(
-        &directory,
-        &format!("exec '{}' statement", env!("CARGO_BIN_EXE_second")),
-    );
-    let tally = check(&program, 6, 200).unwrap();
+    let program = itself(&directory);
+    let tally = check(&program, 6, 200, BOTH, 1).unwrap();
     assert_eq!(tally.complete(), Ok(()));
+    // The same files on three threads.
+    let threaded = check(&program, 6, 200, BOTH, 3).unwrap();
+    assert_eq!(threaded.to_string(), tally.to_string());
     fs::remove_dir_all(directory).unwrap();
+}
+
+/// The file that a message says is left, which is this one; then removed with its directory.
+fn assert_left(message: &str, made: &MadeFile) {
+    let left = message.split("left at ").nth(1).unwrap();
+    let left = Path::new(left.split(":\n").next().unwrap());
+    assert_eq!(fs::read(left).unwrap(), made.bytes);
+    fs::remove_dir_all(left.parent().unwrap()).unwrap();
 }
 
 #[test]
 fn check_tells_the_first_difference_and_leaves_the_file() {
     let directory = temporary("liar");
     let program = script(&directory, "cat > /dev/null; echo refused 1 at 0");
-    let message = check(&program, 7, 200).err().unwrap();
+    for (feeds, words, threads) in [
+        (BOTH, "in one piece", 1),
+        (&BOTH[1..], "in pieces", 1),
+        (BOTH, "in one piece", 4),
+    ] {
+        let message = check(&program, 7, 200, feeds, threads).err().unwrap();
+        assert!(
+            message.starts_with(&format!("seed 7, file 0 (small), {words}, left at ")),
+            "{message}"
+        );
+        assert!(message.contains("line 1 is to be \"area "), "{message}");
+        assert!(
+            message.ends_with("but was printed as \"refused 1 at 0\\n\""),
+            "{message}"
+        );
+        assert_left(&message, &file(7, 0));
+    }
+    fs::remove_dir_all(directory).unwrap();
+}
+
+/// A program that reads once, as much as it may, and takes that for everything: right on a file in one piece only.
+#[test]
+fn check_finds_a_program_that_takes_the_first_piece_for_the_file() {
+    let directory = temporary("hasty");
+    let second = env!("CARGO_BIN_EXE_second");
+    let program = script(
+        &directory,
+        &format!("dd bs=200000 count=1 2>/dev/null | '{second}' statement"),
+    );
+    assert!(check(&program, 11, 60, &BOTH[..1], 1).is_ok());
+    let message = check(&program, 11, 60, BOTH, 2).err().unwrap();
+    assert!(message.contains("in pieces"), "{message}");
+    let number = message.split("file ").nth(1).unwrap();
+    let number = number.split(' ').next().unwrap().parse().unwrap();
+    assert_left(&message, &file(11, number));
+    fs::remove_dir_all(directory).unwrap();
+}
+
+/// A program may stop reading a file that is too long, and a failed write is not a failure of the check.
+#[test]
+fn check_lets_a_program_stop_reading() {
+    let directory = temporary("early");
+    let second = env!("CARGO_BIN_EXE_second");
+    let program = script(&directory, &format!("head -c 65537 | '{second}' statement"));
+    check(&program, 12, 60, BOTH, 1).unwrap();
+    fs::remove_dir_all(directory).unwrap();
+}
+
+#[test]
+fn check_minds_how_the_program_ends() {
+    let directory = temporary("ends");
+    let second = env!("CARGO_BIN_EXE_second");
+    let program = script(&directory, &format!("'{second}' statement; exit 3"));
+    let message = check(&program, 13, 10, BOTH, 1).err().unwrap();
     assert!(
-        message.starts_with("seed 7, file 0 (small), left at "),
+        message.ends_with("the program ended with exit status: 3"),
         "{message}"
     );
-    assert!(message.contains("line 1 is to be \"area "), "{message}");
+    assert_left(&message, &file(13, 0));
+    let program = script(&directory, &format!("'{second}' statement; kill -9 $$"));
+    let message = check(&program, 14, 10, BOTH, 1).err().unwrap();
+    assert!(message.contains("signal: 9"), "{message}");
+    assert_left(&message, &file(14, 0));
+    let message = check(&directory.join("none"), 15, 10, BOTH, 1)
+        .err()
+        .unwrap();
+    assert!(message.contains("none: No such file"), "{message}");
+    assert_left(&message, &file(15, 0));
+    fs::remove_dir_all(directory).unwrap();
+}
+
+#[test]
+fn the_check_command_fails_where_something_did_not_occur() {
+    let directory = temporary("command");
+    let program = itself(&directory);
+    let command = |seed: &str, count: &str, more: &[&str]| {
+        Command::new(env!("CARGO_BIN_EXE_second"))
+            .args(["check", "--seed", seed, "--count", count, "--program"])
+            .arg(&program)
+            .args(more)
+            .output()
+            .unwrap()
+    };
+    let all = command("16", "200", &["--threads", "2"]);
+    let text = String::from_utf8(all.stdout).unwrap();
     assert!(
-        message.ends_with("but was printed as \"refused 1 at 0\\n\""),
-        "{message}"
+        text.contains("seed 16: 200 files, none differs (both, "),
+        "{text}"
     );
-    let left = message.split("left at ").nth(1).unwrap();
-    let left = Path::new(left.split(":\n").next().unwrap());
-    assert_eq!(fs::read(left).unwrap(), file(7, 0).bytes);
-    fs::remove_dir_all(left.parent().unwrap()).unwrap();
+    assert!(all.status.success());
+    let few = command("16", "3", &["--feed", "whole"]);
+    let message = String::from_utf8(few.stderr).unwrap();
+    assert!(message.starts_with("did not occur: refused "), "{message}");
+    assert_eq!(few.status.code(), Some(1));
+    for more in [["--feed", "half"], ["--threads", "many"]] {
+        assert_eq!(command("16", "3", &more).status.code(), Some(1));
+    }
     fs::remove_dir_all(directory).unwrap();
 }
 

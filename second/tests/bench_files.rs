@@ -1,0 +1,110 @@
+//! The files that instructions are counted on are of the size asked for, and judged as meant.
+
+mod common;
+
+use std::process::{Command, Output};
+
+use common::{assert_accepted, assert_refused};
+use second::bench::{bench_file, Fault, Readings, Size};
+use second::limits::FILE_BYTES_MAX;
+use second::month::settle;
+
+fn size(hours: usize, parties: usize, refixed: bool, readings: Readings, span: usize) -> Size {
+    Size {
+        hours,
+        parties,
+        refixed,
+        readings,
+        span,
+    }
+}
+
+#[test]
+fn a_file_is_of_its_size() {
+    for (hours, parties, refixed, readings, span) in [
+        (1, 1, false, 0, 1),
+        (93, 32, true, 10, 5),
+        (744, 64, true, 500, 24),
+        (745, 64, false, 1_500, 745),
+    ] {
+        let size = size(hours, parties, refixed, Readings::Count(readings), span);
+        let file = bench_file(&size, None);
+        assert_accepted(&file);
+        let month = settle(&file).unwrap();
+        assert_eq!(
+            (month.hours.len(), month.file.parties.len()),
+            (hours, parties)
+        );
+        assert_eq!(month.refixed_wh.is_empty(), !refixed);
+        assert_eq!(month.file.readings.len(), readings);
+        for reading in &month.file.readings {
+            assert_eq!(usize::from(reading.b - reading.a), span);
+            assert!(reading.e_wh > 0);
+        }
+        assert_eq!(file, bench_file(&size, None));
+    }
+}
+
+#[test]
+fn the_most_readings_leave_no_room_for_another() {
+    for (hours, parties, readings) in [(745, 1, 3_346), (1, 1, 6_545), (1, 4, 6_539)] {
+        let size = size(hours, parties, false, Readings::Most, hours);
+        let file = bench_file(&size, None);
+        assert_accepted(&file);
+        assert!((FILE_BYTES_MAX - 9..=FILE_BYTES_MAX).contains(&file.len()));
+        assert_eq!(settle(&file).unwrap().file.readings.len(), readings);
+    }
+}
+
+#[test]
+fn a_fault_shows_at_the_last_byte_only() {
+    let size = size(744, 64, true, Readings::Count(500), 24);
+    let good = bench_file(&size, None);
+    let end = 1 + 64 + 3 * 744 + 500;
+    let after = bench_file(&size, Some(Fault::ByteAfter));
+    assert_eq!(after[..good.len()], good);
+    assert_refused(&after, 1, end + 1);
+    let counted = bench_file(&size, Some(Fault::Count));
+    let last = good.len() - 1;
+    assert_eq!(counted[..last], good[..last]);
+    assert_refused(&counted, 15, end);
+}
+
+fn command(line: &str) -> Output {
+    Command::new(env!("CARGO_BIN_EXE_second"))
+        .args(line.split(' '))
+        .output()
+        .unwrap()
+}
+
+#[test]
+fn the_command_writes_the_file() {
+    let line = "bench-file --hours 3 --parties 2 --series refixed --readings 4 --span 2";
+    let size = size(3, 2, true, Readings::Count(4), 2);
+    assert_eq!(command(line).stdout, bench_file(&size, None));
+    for (word, fault) in [("byte", Fault::ByteAfter), ("count", Fault::Count)] {
+        let printed = command(&format!("{line} --fault {word}"));
+        assert_eq!(printed.stdout, bench_file(&size, Some(fault)));
+    }
+    let most = command("bench-file --hours 1 --parties 4 --series fixed --readings most --span 1");
+    assert_eq!(most.stdout.len(), FILE_BYTES_MAX);
+}
+
+#[test]
+fn sizes_that_no_file_has_are_not_made() {
+    for line in [
+        "bench-file --hours 0 --parties 2 --series fixed --readings 4 --span 1",
+        "bench-file --hours 746 --parties 2 --series fixed --readings 4 --span 1",
+        "bench-file --hours 3 --parties 65 --series fixed --readings 4 --span 1",
+        "bench-file --hours 3 --parties 2 --series both --readings 4 --span 1",
+        "bench-file --hours 3 --parties 2 --series fixed --readings some --span 1",
+        "bench-file --hours 3 --parties 2 --series fixed --readings 4 --span 4",
+        "bench-file --hours 3 --parties 2 --series fixed --readings 6600 --span 1",
+        "bench-file --hours 3 --parties 2 --series fixed --readings 4 --span 1 --fault none",
+    ] {
+        let printed = command(line);
+        assert!(printed.stdout.is_empty(), "{line}");
+        assert!(!printed.stderr.is_empty(), "{line}");
+        assert_eq!(printed.status.code(), Some(1), "{line}");
+    }
+}
