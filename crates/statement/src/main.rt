@@ -1,9 +1,9 @@
 // THE STATEMENT PROGRAM (01 "The statement program"): it reads one month file from standard input and prints its statement, or `refused N at P`.
 //
-// What is proved of it: every call returns, no more than the buffer is read, and the bytes that it hands to standard output are those of `printed`
-// (specs/Printed.antt). What no contract can say, since those of the kit's `read` and `write` speak of counts alone: that the bytes in the buffer are those of
-// standard input, and that the bytes handed over arrive. The tests over the running program say that. The program has no exit status: a failure is told by
-// standard error, and by an answer that is missing or cut short.
+// What is proved of it: it is safe and ends, given that each read and write returns; and the text that it makes for printing is that of `printed`
+// (specs/Printed.antt), for a file that is too long the refusal 1 at 0. What no contract can say, since those of `libc::read` and `libc::write` speak of the count
+// of one call alone: that the bytes of the buffer are those of standard input, all of them, and that what is handed over arrives. tests/streams tries that on the
+// running program. A program has no exit status: a failure is told on standard error, with no answer or a part of one on standard output.
 use answer::Refusal;
 use libc::STDERR_FILENO;
 use libc::STDIN_FILENO;
@@ -16,6 +16,8 @@ mod statement_text;
 ghost use lib.ListN.{length, take};
 ghost use mathlib.Core.Path.{_≡_};
 ghost use Prim.Native.Nat.{_≤_};
+ghost use Rattle.rules.specs.Refusals.{fileFault};
+ghost use Rattle.rules.specs.Statement.{refusalLine};
 ghost use Rattle.statement.specs.Printed.{LinesWithin, refusalText, printed};
 ghost use Rattle.statement.specs.Reading.{PieceWithin, InputWithin};
 ghost use Rattle.text.specs.Text.{longestRefusalLine};
@@ -37,8 +39,8 @@ enum Input {
     Failed,
 }
 
-// One read. Only an answer of 0 is the end of the input, and one of -1 is a failure, whatever the reason: the program has no signal handler, so that no read of
-// it is interrupted.
+// One read into a part that is not empty. Only an answer of 0 is the end of the input; -1 is a failure for whatever reason, since `libc` does not show it. (A read
+// is interrupted only by a signal that the program handles, and it handles none.)
 fn read_piece(part: &mut [u8]) -> Piece
     ensures { λ p. ⌜ PieceWithin p (length (now (part .exit))) ⌝ }
 {
@@ -131,12 +133,21 @@ fn file_text(file: &[u8], out: &mut [u8]) -> usize
     answer_text(stated, out)
 }
 
-// Says a failure. Where standard error fails too, there is nowhere left to say it.
+// "An empty or too long file is refused before all else, place 0": its refusal goes the way of every other.
+fn too_long_text(out: &mut [u8]) -> usize
+    requires { ⌜ longestRefusalLine ≤ length (now out) ⌝ }
+    ensures within { λ n. ⌜ n ≤ length (now (out .exit)) ⌝ }
+    ensures text { λ n. ⌜ take n (now (out .exit)) ≡ refusalLine fileFault 0 ⌝ }
+{
+    answer_text(Stated::Refused(Refusal::FileFault, 0), out)
+}
+
+// Says a failure on standard error; where that fails too, there is nowhere left to say it.
 fn complain(message: &[u8]) {
     io::write_all(STDERR_FILENO, message);
 }
 
-// All of a text, however many writes it takes; the first that fails ends it.
+// Prints all of a text, however many writes it takes, and says the first that fails.
 fn print(text: &[u8]) {
     let all = io::write_all(STDOUT_FILENO, text);
     if !all {
@@ -151,10 +162,9 @@ fn print_file(file: &[u8]) {
     print(&out[0..n]);
 }
 
-// "An empty or too long file is refused before all else, place 0"
 fn print_too_long() {
     let mut out = room();
-    let n = answer_text(Stated::Refused(Refusal::FileFault, 0), &mut out);
+    let n = too_long_text(&mut out);
     print(&out[0..n]);
 }
 
