@@ -1,0 +1,99 @@
+-- The statement of a file: its lines one after the other, or its refusal.
+use mathlib.Core.Bool.{Bool, true, false}
+use mathlib.Core.List.{List, _++_}
+use mathlib.Core.Path.{_≡_, refl, sym, _∙_, ap, ap₂}
+use Prim.Native.Nat.{ℕ, _+_, _*_, _≤_, _<_}
+use native.Mathlib.Omega.{arith}
+use borrow.Author.Tests.{le-leb, lt-leb}
+use lib.Dec.{leb}
+use lib.ListN.{length, drop}
+use Rattle.answer.specs.Said.{said, named}
+use Rattle.answer.specs.declared.Answer.the-variants.{Done}
+use Rattle.answer.specs.declared.Refusal.{Refusal}
+use Rattle.answer.specs.declared.Refusal.the-variants.{WrongLength}
+use Rattle.month.specs.Outcomes.{OutcomeIs}
+use Rattle.month.specs.declared.Outcome.{Outcome}
+use Rattle.month_file.specs.Fields.{Accepted}
+use Rattle.month_file.specs.Walk.{sectionsOf}
+use Rattle.month_file.specs.declared.Sections.{Sections}
+use Rattle.month_file.proofs.AcceptedFile.{read-as, sections-are}
+use Rattle.rules.specs.Month.{monthOf, monthVerdict, estimatedHours, verdictOn, fileVerdict}
+use Rattle.rules.specs.MonthFile.{MonthFile, H, P, readMonth}
+use Rattle.rules.specs.Refusals as R
+use Rattle.rules.specs.Statement as T
+use Rattle.statement_text.specs.Lines.{Settled, partyLines, LinePut, statementRoom}
+use Rattle.statement_text.specs.Stating.{textVerdict, Promised}
+use Rattle.statement_text.specs.declared.Stated.the-variants as S
+use Rattle.text.specs.Text.{Put, headingRoom, columnsRoom, atStart}
+use Rattle.text.proofs.Puts.{put-then, put-as, put-length, put-at-start}
+
+module _ (file : List ℕ) (s : Sections) (ok : Accepted file s) {outcome : Outcome} (is : OutcomeIs (monthOf file) outcome) (done : outcome .answer ≡ Done) where
+  abbrev m : MonthFile
+  m = monthOf file
+
+  no-refusal : monthVerdict m ≡ R.accepted
+  no-refusal = sym (is .verdict) ∙ ap said done
+
+  pub settled : Settled file s (outcome .sums)
+  settled = record { read = ok; no-refusal = no-refusal; sums-are = is .sums (ap said done) }
+
+  heading-text : T.headingText (s .heading .area) (s .heading .year) (s .heading .month) (s .heading .hours) (s .heading .parties) (outcome .estimated) ≡ T.headingLine m
+  unfolding T.headingLine H P sectionsOf
+  heading-text =
+      ap₂ (λ (x : Sections) (k : ℕ). T.headingText (x .heading .area) (x .heading .year) (x .heading .month) (x .heading .hours) (x .heading .parties) k) (sections-are file s ok) (is .estimated (ap said done))
+
+  -- THE LINES ONE AFTER THE OTHER
+  module _ {before out₁ : List ℕ} {end₁ : ℕ} (h : Put (T.headingText (s .heading .area) (s .heading .year) (s .heading .month) (s .heading .hours) (s .heading .parties) (outcome .estimated)) before 0 out₁ end₁)
+      (h-within : end₁ ≤ 0 + headingRoom) where
+    pub room-for-parties : statementRoom ≤ length before → end₁ + 64 * columnsRoom ≤ length out₁
+    room-for-parties room = omega (arith, put-length h)
+
+    module _ {out₂ : List ℕ} {end₂ : ℕ} (p : LinePut (partyLines m) out₁ end₁ (64 * columnsRoom) out₂ end₂) where
+      pub room-for-total : statementRoom ≤ length before → end₂ + columnsRoom ≤ length out₂
+      room-for-total room = omega (arith, put-length h, put-length (p .put), p .within)
+
+      pub all-lines : {after : List ℕ} {end : ℕ} → LinePut (T.totalLine m) out₂ end₂ columnsRoom after end → LinePut (T.statementLines m) before 0 statementRoom after end
+      unfolding T.statementLines
+      all-lines t =
+          record { put = put-then (put-then (put-as heading-text h) (p .put)) (t .put); within = omega (arith, p .within, t .within) }
+
+  -- THE STATEMENT OF THE FILE IS THESE LINES
+  statement-is : T.statement file ≡ T.statementLines m
+  unfolding T.statement T.answeredStatement T.judgedStatement
+  statement-is = ap T.answeredStatement (read-as file s ok) ∙ ap (T.judgedStatement m) no-refusal
+
+  file-accepted : fileVerdict file ≡ R.accepted
+  unfolding fileVerdict verdictOn
+  file-accepted = ap verdictOn (read-as file s ok) ∙ no-refusal
+
+  text-verdict : (lent : ℕ) → textVerdict file lent ≡ R.unless (leb statementRoom lent) R.wrongLength 0
+  unfolding textVerdict R.andThen
+  text-verdict lent = ap (λ (v : R.Verdict). R.andThen v (R.unless (leb statementRoom lent) R.wrongLength 0)) file-accepted
+
+  pub too-short : (old : List ℕ) → length old < statementRoom → Promised file old (S.Refused WrongLength 0) old
+  unfolding R.answer R.afterwards R.unless
+  too-short old b =
+      let v : textVerdict file (length old) ≡ R.refused R.wrongLength 0 = text-verdict (length old) ∙ ap (λ (t : Bool). R.unless t R.wrongLength 0) (lt-leb statementRoom (length old) b) in
+      record { answer = ap (λ (w : R.Verdict). R.answer w (length (T.statement file))) (sym v); contents = refl }
+
+  pub stated : {old new : List ℕ} {n : ℕ} → statementRoom ≤ length old → LinePut (T.statementLines m) old 0 statementRoom new n → Promised file old (S.Lines n) new
+  unfolding R.answer R.afterwards R.unless atStart
+  stated {old} {new} {n} room l =
+      let v : textVerdict file (length old) ≡ R.accepted = text-verdict (length old) ∙ ap (λ (t : Bool). R.unless t R.wrongLength 0) (le-leb statementRoom (length old) room) in
+      record { answer = ap R.given (omega (arith, l .put .ends) ∙ ap length (sym statement-is)) ∙ ap (λ (w : R.Verdict). R.answer w (length (T.statement file))) (sym v); contents = put-at-start (l .put) (omega (arith, l .within)) ∙ ap (λ (t : List ℕ). t ++ drop (length t) old) (sym statement-is) }
+
+-- a refused file: nothing is written
+pub refused-file : (file : List ℕ) (x : Refusal) (place : ℕ) (old : List ℕ) → fileVerdict file ≡ R.refused (named x) place → Promised file old (S.Refused x place) old
+unfolding R.answer R.afterwards textVerdict R.andThen
+refused-file file x place old e =
+    let v : textVerdict file (length old) ≡ R.refused (named x) place = ap (λ (w : R.Verdict). R.andThen w (R.unless (leb statementRoom (length old)) R.wrongLength 0)) e in
+    record { answer = ap (λ (w : R.Verdict). R.answer w (length (T.statement file))) (sym v); contents = refl }
+
+-- and its statement is its refusal line
+pub refusal-text : (file : List ℕ) {r : R.Refusal} {place : ℕ} → fileVerdict file ≡ R.refused r place → T.statement file ≡ T.refusalLine r place
+unfolding fileVerdict verdictOn T.statement T.answeredStatement T.judgedStatement
+refusal-text file {r} {place} e = go (readMonth file) e
+  where
+    go : (a : R.Answer MonthFile) → verdictOn a ≡ R.refused r place → T.answeredStatement a ≡ T.refusalLine r place
+    go (R.given m) f = ap (T.judgedStatement m) f
+    go (R.refusal x q) f = let same : x ≡ r = cc in let at : q ≡ place = cc in ap₂ T.refusalLine same at
