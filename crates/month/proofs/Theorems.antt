@@ -5,10 +5,9 @@ use mathlib.Core.Logic.{_↔_}
 use mathlib.Core.Path.{_≡_, refl, sym, _∙_, ap, ap₂}
 use Prim.Native.Nat.{ℕ, zero, suc, _+_, _<_}
 use native.Mathlib.Nat.{zero-add}
-use native.Mathlib.Omega.{arith}
 use lib.IntN.{ℤ, pos}
 use lib.ListN.{length}
-use Rattle.month.specs.Demands.{NoRefusalApplies, MonthRefuses, LentWrong, RefusalApplies, of-reading, of-the-month, of-the-lent, MonthMeets}
+use Rattle.month.specs.Demands.{NoRefusalApplies, RefusalApplies, of-reading, of-the-month, of-the-lent, MonthMeets}
 use Rattle.month.specs.Told.{summaryOf, verdict, told, lentRight, settleVerdict, Promised}
 use Rattle.month.specs.declared.Settlement.{Settlement}
 use Rattle.month.specs.declared.Settlement.the-variants.{Settled, Refused}
@@ -45,20 +44,23 @@ unfolding answer
 as-answered accepted s = refl
 as-answered (refused r place) s = refl
 
--- THE EXACT CONDITIONS of the call's verdict, of what the file is read as and the lent outputs' lengths.
-module _ (file : List ℕ) (d p l x a : ℕ) where
+-- THE EXACT CONDITIONS of the call's verdict: of what the file is read as, and of the lent outputs.
+module _ (file : List ℕ) (d₀ : List ℤ) (p₀ : List ℕ) (l₀ x₀ a₀ : List ℤ) where
+  abbrev lent : MonthFile → Bool
+  lent m = lentRight (P m) (length d₀) (length p₀) (length l₀) (length x₀) (length a₀)
+
   abbrev last : MonthFile → Verdict
-  last m = unless (lentRight (P m) d p l x a) wrongLength 0
+  last m = unless (lent m) wrongLength 0
 
-  abbrev verdictOf : Answer MonthFile → Verdict
-  verdictOf read = andThen (verdictOn read) (last (monthRead read))
+  abbrev verdictFor : Answer MonthFile → Verdict
+  verdictFor read = andThen (verdictOn read) (last (monthRead read))
 
-  the-call : settleVerdict file d p l x a ≡ verdictOf (readMonth file)
+  the-call : settleVerdict file (length d₀) (length p₀) (length l₀) (length x₀) (length a₀) ≡ verdictFor (readMonth file)
   unfolding settleVerdict callVerdict fileVerdict monthOf
   the-call = refl
 
   -- accepted, then no refusal applies
-  none-applies : (read : Answer MonthFile) → readMonth file ≡ read → verdictOf read ≡ accepted → NoRefusalApplies file d p l x a
+  none-applies : (read : Answer MonthFile) → readMonth file ≡ read → verdictFor read ≡ accepted → NoRefusalApplies file d₀ p₀ l₀ x₀ a₀
   unfolding verdictOn monthVerdict monthRead andThen
   none-applies (given m) is e =
       let both = both-accept (first (monthChecks m)) (last m) e in
@@ -66,16 +68,16 @@ module _ (file : List ℕ) (d p l x a : ℕ) where
   none-applies (refusal r place) is e = absurd (refused-not-accepted e)
 
   -- and the other way
-  then-accepts : NoRefusalApplies file d p l x a → verdictOf (readMonth file) ≡ accepted
+  then-accepts : NoRefusalApplies file d₀ p₀ l₀ x₀ a₀ → verdictFor (readMonth file) ≡ accepted
   unfolding verdictOn monthVerdict monthRead andThen
   then-accepts h =
-      ap verdictOf (h .read)
+      ap verdictFor (h .read)
       ∙ ap₂ (λ (u v : Verdict). andThen u v) (accepted-exactly (monthChecks (h .month)) .1 (h .no-check-refuses))
-      (unless-exactly (lentRight (P (h .month)) d p l x a) wrongLength 0 .1 (h .lent-right))
+      (unless-exactly (lent (h .month)) wrongLength 0 .1 (h .lent-right))
 
   module _ (r : Refusal) (place : ℕ) where
     -- refused, then that refusal applies: once the file is read by the month's checks, and then by the lengths
-    by-the-lent : (m : MonthFile) → readMonth file ≡ given m → NoneRefuses (monthChecks m) → (right : Bool) → lentRight (P m) d p l x a ≡ right → unless right wrongLength 0 ≡ refused r place → RefusalApplies file d p l x a r place
+    by-the-lent : (m : MonthFile) → readMonth file ≡ given m → NoneRefuses (monthChecks m) → (right : Bool) → lent m ≡ right → unless right wrongLength 0 ≡ refused r place → RefusalApplies file d₀ p₀ l₀ x₀ a₀ r place
     unfolding unless
     by-the-lent m is none true b e = absurd (refused-not-accepted (sym e))
     by-the-lent m is none false b e =
@@ -83,13 +85,13 @@ module _ (file : List ℕ) (d p l x a : ℕ) where
         let at-the-start : place ≡ 0 = cc in
         of-the-lent (record { month = m; read = is; no-check-refuses = none; lent-wrong = b; is-16 = same; at-0 = at-the-start })
 
-    by-the-month : (m : MonthFile) → readMonth file ≡ given m → (v : Verdict) → first (monthChecks m) ≡ v → andThen v (last m) ≡ refused r place → RefusalApplies file d p l x a r place
+    by-the-month : (m : MonthFile) → readMonth file ≡ given m → (v : Verdict) → first (monthChecks m) ≡ v → andThen v (last m) ≡ refused r place → RefusalApplies file d₀ p₀ l₀ x₀ a₀ r place
     unfolding andThen
-    by-the-month m is accepted f e = by-the-lent m is (accepted-exactly (monthChecks m) .0 f) (lentRight (P m) d p l x a) refl e
+    by-the-month m is accepted f e = by-the-lent m is (accepted-exactly (monthChecks m) .0 f) (lent m) refl e
     by-the-month m is (refused s q) f e =
         of-the-month (record { month = m; read = is; first-refuses = refused-exactly (monthChecks m) r place .0 (f ∙ e) })
 
-    it-applies : (read : Answer MonthFile) → readMonth file ≡ read → verdictOf read ≡ refused r place → RefusalApplies file d p l x a r place
+    it-applies : (read : Answer MonthFile) → readMonth file ≡ read → verdictFor read ≡ refused r place → RefusalApplies file d₀ p₀ l₀ x₀ a₀ r place
     unfolding verdictOn monthVerdict monthRead andThen
     it-applies (given m) is e = by-the-month m is (first (monthChecks m)) refl e
     it-applies (refusal s q) is e =
@@ -97,13 +99,13 @@ module _ (file : List ℕ) (d p l x a : ℕ) where
         of-reading (is ∙ same)
 
     -- and the other way
-    then-refuses : RefusalApplies file d p l x a r place → verdictOf (readMonth file) ≡ refused r place
+    then-refuses : RefusalApplies file d₀ p₀ l₀ x₀ a₀ r place → verdictFor (readMonth file) ≡ refused r place
     unfolding verdictOn monthVerdict monthRead andThen unless
-    then-refuses (of-reading e) = ap verdictOf e
+    then-refuses (of-reading e) = ap verdictFor e
     then-refuses (of-the-month h) =
-        ap verdictOf (h .read) ∙ ap (λ (u : Verdict). andThen u (last (h .month))) (refused-exactly (monthChecks (h .month)) r place .1 (h .first-refuses))
+        ap verdictFor (h .read) ∙ ap (λ (u : Verdict). andThen u (last (h .month))) (refused-exactly (monthChecks (h .month)) r place .1 (h .first-refuses))
     then-refuses (of-the-lent h) =
-        ap verdictOf (h .read)
+        ap verdictFor (h .read)
         ∙ ap₂ (λ (u : Verdict) (right : Bool). andThen u (unless right wrongLength 0)) (accepted-exactly (monthChecks (h .month)) .1 (h .no-check-refuses)) (h .lent-wrong)
         ∙ ap₂ refused (sym (h .is-16)) (sym (h .at-0))
 
@@ -154,30 +156,30 @@ since-first m i =
 
 -- THE CALL ON A WHOLE FILE: of any answer r, and any contents of the lent outputs, that meet its promise.
 module _ {file : List ℕ} {r : Settlement} {d₀ : List ℤ} {p₀ : List ℕ} {l₀ x₀ a₀ : List ℤ} {d : List ℤ} {p : List ℕ} {l x a : List ℤ} (is : Promised file r d₀ p₀ l₀ x₀ a₀ d p l x a) where
-  its-verdict : verdict r ≡ verdictOf file (length d₀) (length p₀) (length l₀) (length x₀) (length a₀) (readMonth file)
+  its-verdict : verdict r ≡ verdictFor file d₀ p₀ l₀ x₀ a₀ (readMonth file)
   its-verdict =
       sym (as-told r) ∙ ap verdictTold (is .answer) ∙ as-answered _ (summaryOf (monthOf file))
-      ∙ the-call file (length d₀) (length p₀) (length l₀) (length x₀) (length a₀)
+      ∙ the-call file d₀ p₀ l₀ x₀ a₀
 
   -- "A month is accepted exactly when no refusal there applies."
-  pub accepted-exactly-when : (verdict r ≡ accepted) ↔ NoRefusalApplies file (length d₀) (length p₀) (length l₀) (length x₀) (length a₀)
+  pub accepted-exactly-when : (verdict r ≡ accepted) ↔ NoRefusalApplies file d₀ p₀ l₀ x₀ a₀
   accepted-exactly-when = (
-    λ e. none-applies file (length d₀) (length p₀) (length l₀) (length x₀) (length a₀) (readMonth file) refl (sym its-verdict ∙ e),
-    λ h. its-verdict ∙ then-accepts file (length d₀) (length p₀) (length l₀) (length x₀) (length a₀) h,
+    λ e. none-applies file d₀ p₀ l₀ x₀ a₀ (readMonth file) refl (sym its-verdict ∙ e),
+    λ h. its-verdict ∙ then-accepts file d₀ p₀ l₀ x₀ a₀ h,
   )
 
   -- "A refusal returns its number and a place": exactly when it is the one that applies
-  pub refused-exactly-when : (why : Refusal) (place : ℕ) → (verdict r ≡ refused why place) ↔ RefusalApplies file (length d₀) (length p₀) (length l₀) (length x₀) (length a₀) why place
+  pub refused-exactly-when : (why : Refusal) (place : ℕ) → (verdict r ≡ refused why place) ↔ RefusalApplies file d₀ p₀ l₀ x₀ a₀ why place
   refused-exactly-when why place = (
-    λ e. it-applies file (length d₀) (length p₀) (length l₀) (length x₀) (length a₀) why place (readMonth file) refl (sym its-verdict ∙ e),
-    λ h. its-verdict ∙ then-refuses file (length d₀) (length p₀) (length l₀) (length x₀) (length a₀) why place h,
+    λ e. it-applies file d₀ p₀ l₀ x₀ a₀ why place (readMonth file) refl (sym its-verdict ∙ e),
+    λ h. its-verdict ∙ then-refuses file d₀ p₀ l₀ x₀ a₀ why place h,
   )
 
   module _ (ok : verdict r ≡ accepted) where
     abbrev m : MonthFile
     m = monthOf file
 
-    none : NoRefusalApplies file (length d₀) (length p₀) (length l₀) (length x₀) (length a₀)
+    none : NoRefusalApplies file d₀ p₀ l₀ x₀ a₀
     none = accepted-exactly-when .0 ok
 
     its-month : m ≡ none .month

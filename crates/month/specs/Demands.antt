@@ -18,14 +18,14 @@ use Rattle.rules.specs.Refusals.{Refusal, wrongLength, given, refusal}
 use Rattle.rules.specs.Services.{atℤ}
 use Rattle.rules.specs.Words.{sum, sumℤ, at}
 
--- The lent outputs' lengths are given in the order of the call: distributed, periodised, losses, differences, amounts.
+-- The lent outputs stand in the order of the call: distributed, periodised, losses, differences, amounts; d₀, p₀, l₀, x₀ and a₀ are what they hold before it.
 
 -- "A month is accepted exactly when no refusal there applies.": no refusal of reading, none of the month's checks, and not 16
-pub record NoRefusalApplies (file : List ℕ) (d p l x a : ℕ) : Type 0 where
+pub record NoRefusalApplies (file : List ℕ) (d₀ : List ℤ) (p₀ : List ℕ) (l₀ x₀ a₀ : List ℤ) : Type 0 where
   pub month : MonthFile
   pub read : readMonth file ≡ given month
   pub no-check-refuses : NoneRefuses (monthChecks month)
-  pub lent-right : lentRight (P month) d p l x a ≡ true
+  pub lent-right : lentRight (P month) (length d₀) (length p₀) (length l₀) (length x₀) (length a₀) ≡ true
 
 -- "The file is read first", "Then 6; then the fixed hours ..": the file is read, and of the month's checks in their order this is the first that refuses
 pub record MonthRefuses (file : List ℕ) (r : Refusal) (place : ℕ) : Type 0 where
@@ -34,19 +34,19 @@ pub record MonthRefuses (file : List ℕ) (r : Refusal) (place : ℕ) : Type 0 w
   pub first-refuses : FirstRefuses (monthChecks month) r place
 
 -- "last, for a call on a whole month, 16", at place 0: the file is read, no check of the month refuses, and some lent output has not a place for each party
-pub record LentWrong (file : List ℕ) (d p l x a : ℕ) (r : Refusal) (place : ℕ) : Type 0 where
+pub record LentWrong (file : List ℕ) (d₀ : List ℤ) (p₀ : List ℕ) (l₀ x₀ a₀ : List ℤ) (r : Refusal) (place : ℕ) : Type 0 where
   pub month : MonthFile
   pub read : readMonth file ≡ given month
   pub no-check-refuses : NoneRefuses (monthChecks month)
-  pub lent-wrong : lentRight (P month) d p l x a ≡ false
+  pub lent-wrong : lentRight (P month) (length d₀) (length p₀) (length l₀) (length x₀) (length a₀) ≡ false
   pub is-16 : r ≡ wrongLength
   pub at-0 : place ≡ 0
 
 -- the refusal that applies, with its place: one of reading, else one of the month, else 16
-pub data RefusalApplies (file : List ℕ) (d p l x a : ℕ) (r : Refusal) (place : ℕ) : Type 0 where
-  of-reading : readMonth file ≡ refusal r place → RefusalApplies file d p l x a r place
-  of-the-month : MonthRefuses file r place → RefusalApplies file d p l x a r place
-  of-the-lent : LentWrong file d p l x a r place → RefusalApplies file d p l x a r place
+pub data RefusalApplies (file : List ℕ) (d₀ : List ℤ) (p₀ : List ℕ) (l₀ x₀ a₀ : List ℤ) (r : Refusal) (place : ℕ) : Type 0 where
+  of-reading : readMonth file ≡ refusal r place → RefusalApplies file d₀ p₀ l₀ x₀ a₀ r place
+  of-the-month : MonthRefuses file r place → RefusalApplies file d₀ p₀ l₀ x₀ a₀ r place
+  of-the-lent : LentWrong file d₀ p₀ l₀ x₀ a₀ r place → RefusalApplies file d₀ p₀ l₀ x₀ a₀ r place
 
 -- WHAT HOLDS OF AN ACCEPTED MONTH: m is the month that the file is read as; d, p, l, x and a are what the lent outputs hold once the call has answered
 pub record MonthMeets (file : List ℕ) (m : MonthFile) (d : List ℤ) (p : List ℕ) (l x a : List ℤ) : Type 0 where
