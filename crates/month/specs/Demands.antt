@@ -53,7 +53,7 @@ pub record MonthMeets (file : List ℕ) (m : MonthFile) (d : List ℤ) (p : List
   pub read : readMonth file ≡ given m
   -- "one line per party in order": a figure for each party in every lent output, and nothing more
   pub sizes : (length d ≡ P m) × (length p ≡ P m) × (length l ≡ P m) × (length x ≡ P m) × (length a ≡ P m)
-  -- "A missing hour is refused and is never taken for zero.": every hour of the fixed and of the applied series has status 1 or 2
+  -- "A missing hour is refused and is never taken for zero.": no hour of the fixed or of the applied series has status 0
   pub no-hour-missing : (t : ℕ) → t < H m → (1 ≤ flowsAt (m .fixed) t .status) × (1 ≤ appliedFlows m t .status)
   -- "For a month whose load shares are accepted ..": W lies within its limits
   pub shares-accepted : (1 ≤ monthW m) × (monthW m ≤ greatestW)
