@@ -1,3 +1,4 @@
 pub mod Windows
 pub mod Outcomes
 pub mod Told
+pub mod Demands

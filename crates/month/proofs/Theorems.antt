@@ -1,0 +1,216 @@
+-- The demands (00) of the call on a whole file, proved from its promise alone: so they hold of whatever answer and contents fit the promise.
+use mathlib.Core.Bool.{Bool, true, false}
+use mathlib.Core.List.{List}
+use mathlib.Core.Logic.{_↔_}
+use mathlib.Core.Path.{_≡_, refl, sym, _∙_, ap, ap₂}
+use Prim.Native.Nat.{ℕ, zero, suc, _+_, _<_}
+use native.Mathlib.Nat.{zero-add}
+use lib.IntN.{ℤ, pos}
+use lib.ListN.{length}
+use Rattle.month.specs.Demands.{NoRefusalApplies, RefusalApplies, of-reading, of-the-month, of-the-lent, MonthMeets}
+use Rattle.month.specs.Told.{summaryOf, verdict, told, lentRight, settleVerdict, Promised}
+use Rattle.month.specs.declared.Settlement.{Settlement}
+use Rattle.month.specs.declared.Settlement.the-variants.{Settled, Refused}
+use Rattle.month.specs.declared.Summary.{Summary}
+use Rattle.month_file.proofs.AcceptedFile.{month-of}
+use Rattle.rules.specs.Accepted.{NoneRefuses}
+use Rattle.rules.specs.Demands.{sumOver, sumSinceFirst}
+use Rattle.rules.specs.Distributed.{distributedFigure}
+use Rattle.rules.specs.Month.{monthRead, monthOf, shareOf, appliedWh, distributed, periodised, allPeriodised, loss, monthDistributed, monthPeriodised, monthLoss, monthDifference, monthAmount, monthChecks, monthVerdict, verdictOn, fileVerdict, callVerdict}
+use Rattle.rules.specs.MonthFile.{MonthFile, H, P, readMonth}
+use Rattle.rules.specs.Reconciliation.{lossOf}
+use Rattle.rules.specs.Refusals.{Refusal, wrongLength, Verdict, accepted, refused, Answer, given, refusal, unless, andThen, first, answer, afterwards}
+use Rattle.rules.specs.Services.{atℤ}
+use Rattle.rules.specs.Words.{sum, sumℤ, at, figures}
+use Rattle.rules.proofs.Integers.{sumℤ-cong, sumℤ-swap}
+use Rattle.rules.proofs.Loops.{figures-length, figures-at}
+use Rattle.rules.proofs.Month.{Judged, accepted-is-judged, heading-right, W-in-range, fixed-hours-have, every-hour-has-its-figure, demand-3-of-the-month, hour-differences-add-up, all-distributed, all-differences, all-amounts}
+use Rattle.rules.proofs.Reconciliation.{one-carries-the-loss}
+use Rattle.rules.proofs.Refusals.{refused-not-accepted, accepted-exactly, refused-exactly, both-accept, unless-exactly}
+use Rattle.rules.proofs.Sums.{sum-cong, sum-add, sum-zero}
+use Rattle.rules.proofs.Whole.{what-is-read-is-whole}
+
+-- The verdict can be read back from what an answer tells.
+abbrev verdictTold : Answer Summary → Verdict
+verdictTold (given s) = accepted
+verdictTold (refusal r place) = refused r place
+
+as-told : (r : Settlement) → verdictTold (told r) ≡ verdict r
+as-told (Settled s) = refl
+as-told (Refused r place) = refl
+
+as-answered : (v : Verdict) (s : Summary) → verdictTold (answer v s) ≡ v
+unfolding answer
+as-answered accepted s = refl
+as-answered (refused r place) s = refl
+
+-- THE EXACT CONDITIONS of the call's verdict: of what the file is read as, and of the lent outputs.
+module _ (file : List ℕ) (d₀ : List ℤ) (p₀ : List ℕ) (l₀ x₀ a₀ : List ℤ) where
+  abbrev lent : MonthFile → Bool
+  lent m = lentRight (P m) (length d₀) (length p₀) (length l₀) (length x₀) (length a₀)
+
+  abbrev last : MonthFile → Verdict
+  last m = unless (lent m) wrongLength 0
+
+  abbrev verdictFor : Answer MonthFile → Verdict
+  verdictFor read = andThen (verdictOn read) (last (monthRead read))
+
+  the-call : settleVerdict file (length d₀) (length p₀) (length l₀) (length x₀) (length a₀) ≡ verdictFor (readMonth file)
+  unfolding settleVerdict callVerdict fileVerdict monthOf
+  the-call = refl
+
+  -- accepted, then no refusal applies
+  none-applies : (read : Answer MonthFile) → readMonth file ≡ read → verdictFor read ≡ accepted → NoRefusalApplies file d₀ p₀ l₀ x₀ a₀
+  unfolding verdictOn monthVerdict monthRead andThen
+  none-applies (given m) is e =
+      let both = both-accept (first (monthChecks m)) (last m) e in
+      record { month = m; read = is; no-check-refuses = accepted-exactly (monthChecks m) .0 (both .0); lent-right = unless-exactly _ _ _ .0 (both .1) }
+  none-applies (refusal r place) is e = absurd (refused-not-accepted e)
+
+  -- and the other way
+  then-accepts : NoRefusalApplies file d₀ p₀ l₀ x₀ a₀ → verdictFor (readMonth file) ≡ accepted
+  unfolding verdictOn monthVerdict monthRead andThen
+  then-accepts h =
+      ap verdictFor (h .read)
+      ∙ ap₂ (λ (u v : Verdict). andThen u v) (accepted-exactly (monthChecks (h .month)) .1 (h .no-check-refuses))
+      (unless-exactly (lent (h .month)) wrongLength 0 .1 (h .lent-right))
+
+  module _ (r : Refusal) (place : ℕ) where
+    -- refused, then that refusal applies: once the file is read by the month's checks, and then by the lengths
+    by-the-lent : (m : MonthFile) → readMonth file ≡ given m → NoneRefuses (monthChecks m) → (right : Bool) → lent m ≡ right → unless right wrongLength 0 ≡ refused r place → RefusalApplies file d₀ p₀ l₀ x₀ a₀ r place
+    unfolding unless
+    by-the-lent m is none true b e = absurd (refused-not-accepted (sym e))
+    by-the-lent m is none false b e =
+        let same : r ≡ wrongLength = cc in
+        let at-the-start : place ≡ 0 = cc in
+        of-the-lent (record { month = m; read = is; no-check-refuses = none; lent-wrong = b; is-16 = same; at-0 = at-the-start })
+
+    by-the-month : (m : MonthFile) → readMonth file ≡ given m → (v : Verdict) → first (monthChecks m) ≡ v → andThen v (last m) ≡ refused r place → RefusalApplies file d₀ p₀ l₀ x₀ a₀ r place
+    unfolding andThen
+    by-the-month m is accepted f e = by-the-lent m is (accepted-exactly (monthChecks m) .0 f) (lent m) refl e
+    by-the-month m is (refused s q) f e =
+        of-the-month (record { month = m; read = is; first-refuses = refused-exactly (monthChecks m) r place .0 (f ∙ e) })
+
+    it-applies : (read : Answer MonthFile) → readMonth file ≡ read → verdictFor read ≡ refused r place → RefusalApplies file d₀ p₀ l₀ x₀ a₀ r place
+    unfolding verdictOn monthVerdict monthRead andThen
+    it-applies (given m) is e = by-the-month m is (first (monthChecks m)) refl e
+    it-applies (refusal s q) is e =
+        let same : _≡_ {A = Answer MonthFile} (refusal s q) (refusal r place) = cc in
+        of-reading (is ∙ same)
+
+    -- and the other way
+    then-refuses : RefusalApplies file d₀ p₀ l₀ x₀ a₀ r place → verdictFor (readMonth file) ≡ refused r place
+    unfolding verdictOn monthVerdict monthRead andThen unless
+    then-refuses (of-reading e) = ap verdictFor e
+    then-refuses (of-the-month h) =
+        ap verdictFor (h .read) ∙ ap (λ (u : Verdict). andThen u (last (h .month))) (refused-exactly (monthChecks (h .month)) r place .1 (h .first-refuses))
+    then-refuses (of-the-lent h) =
+        ap verdictFor (h .read)
+        ∙ ap₂ (λ (u : Verdict) (right : Bool). andThen u (unless right wrongLength 0)) (accepted-exactly (monthChecks (h .month)) .1 (h .no-check-refuses)) (h .lent-wrong)
+        ∙ ap₂ refused (sym (h .is-16)) (sym (h .at-0))
+
+-- by hour and then by party is by party and then by hour
+sum-swap : (n h : ℕ) (f : ℕ → ℕ → ℕ) → sum n (λ i. sum h (λ t. f t i)) ≡ sum h (λ t. sum n (f t))
+unfolding sum
+sum-swap zero h f = sym (sum-zero h (λ t b. refl))
+sum-swap (suc n) h f = ap (λ (k : ℕ). k + sum h (λ t. f t n)) (sum-swap n h f) ∙ sym (sum-add h (λ t. sum n (f t)) (λ t. f t n))
+
+-- A list that holds the figures of a column: each figure, and their sum.
+signed-at : (n : ℕ) (f : ℕ → ℤ) {held : List ℤ} → held ≡ figures n f → (i : ℕ) → i < n → atℤ held i ≡ f i
+unfolding atℤ
+signed-at n f is i b = ap (λ (list : List ℤ). atℤ list i) is ∙ figures-at n f i (pos 0) b
+
+unsigned-at : (n : ℕ) (f : ℕ → ℕ) {held : List ℕ} → held ≡ figures n f → (i : ℕ) → i < n → at held i ≡ f i
+unfolding at
+unsigned-at n f is i b = ap (λ (list : List ℕ). at list i) is ∙ figures-at n f i 0 b
+
+signed-column : (n : ℕ) (f : ℕ → ℤ) {held : List ℤ} → held ≡ figures n f → sumℤ n (atℤ held) ≡ sumℤ n f
+signed-column n f is = sumℤ-cong n (λ i b. signed-at n f is i b)
+
+unsigned-column : (n : ℕ) (f : ℕ → ℕ) {held : List ℕ} → held ≡ figures n f → sum n (at held) ≡ sum n f
+unsigned-column n f is = sum-cong n (λ i b. unsigned-at n f is i b)
+
+as-many : {A : Type 0} (n : ℕ) (f : ℕ → A) {held : List A} → held ≡ figures n f → length held ≡ n
+as-many n f is = ap length is ∙ figures-length n f
+
+-- an accepted call leaves the new contents
+now-held : {A : Type 0} {v : Verdict} (old : List A) {new held : List A} → v ≡ accepted → held ≡ afterwards v new old → held ≡ new
+unfolding afterwards
+now-held old {new} e is = is ∙ ap (λ (u : Verdict). afterwards u new old) e
+
+-- The other two columns of a month, and its distributed sums as demand 3 has them.
+all-losses : (m : MonthFile) → Judged m → sumℤ (P m) (monthLoss m) ≡ sumℤ (H m) (loss m)
+unfolding monthLoss P
+all-losses m judged =
+    sumℤ-swap (P m) (H m) (λ t. lossOf (m .heading .carrier) (loss m t))
+    ∙ sumℤ-cong (H m) (λ t b. one-carries-the-loss (P m) (m .heading .carrier) (loss m t) (heading-right m judged .carrier))
+
+all-periodised : (m : MonthFile) → sum (P m) (monthPeriodised m) ≡ sum (H m) (allPeriodised m)
+unfolding monthPeriodised allPeriodised
+all-periodised m = sum-swap (P m) (H m) (periodised m)
+
+since-first : (m : MonthFile) (i : ℕ) → monthDistributed m i ≡ sumSinceFirst (P m) (shareOf m) (appliedWh m) (H m) i
+unfolding monthDistributed distributed sumSinceFirst sumOver
+since-first m i =
+    sumℤ-cong (H m) (λ t b. ap (λ (k : ℕ). distributedFigure (P m) (shareOf m) (appliedWh m) k i) (sym (zero-add t)))
+
+-- THE CALL ON A WHOLE FILE: of any answer r, and any contents of the lent outputs, that meet its promise.
+module _ {file : List ℕ} {r : Settlement} {d₀ : List ℤ} {p₀ : List ℕ} {l₀ x₀ a₀ : List ℤ} {d : List ℤ} {p : List ℕ} {l x a : List ℤ} (is : Promised file r d₀ p₀ l₀ x₀ a₀ d p l x a) where
+  its-verdict : verdict r ≡ verdictFor file d₀ p₀ l₀ x₀ a₀ (readMonth file)
+  its-verdict =
+      sym (as-told r) ∙ ap verdictTold (is .answer) ∙ as-answered _ (summaryOf (monthOf file))
+      ∙ the-call file d₀ p₀ l₀ x₀ a₀
+
+  -- "A month is accepted exactly when no refusal there applies."
+  pub accepted-exactly-when : (verdict r ≡ accepted) ↔ NoRefusalApplies file d₀ p₀ l₀ x₀ a₀
+  accepted-exactly-when = (
+    λ e. none-applies file d₀ p₀ l₀ x₀ a₀ (readMonth file) refl (sym its-verdict ∙ e),
+    λ h. its-verdict ∙ then-accepts file d₀ p₀ l₀ x₀ a₀ h,
+  )
+
+  -- "A refusal returns its number and a place": exactly when it is the one that applies
+  pub refused-exactly-when : (why : Refusal) (place : ℕ) → (verdict r ≡ refused why place) ↔ RefusalApplies file d₀ p₀ l₀ x₀ a₀ why place
+  refused-exactly-when why place = (
+    λ e. it-applies file d₀ p₀ l₀ x₀ a₀ why place (readMonth file) refl (sym its-verdict ∙ e),
+    λ h. its-verdict ∙ then-refuses file d₀ p₀ l₀ x₀ a₀ why place h,
+  )
+
+  module _ (ok : verdict r ≡ accepted) where
+    abbrev m : MonthFile
+    m = monthOf file
+
+    none : NoRefusalApplies file d₀ p₀ l₀ x₀ a₀
+    none = accepted-exactly-when .0 ok
+
+    its-month : m ≡ none .month
+    its-month = month-of file (none .read)
+
+    read-as : readMonth file ≡ given m
+    read-as = none .read ∙ ap given (sym its-month)
+
+    judged : Judged m
+    unfolding monthVerdict
+    judged =
+        accepted-is-judged m (what-is-read-is-whole file read-as)
+        (ap monthVerdict its-month ∙ accepted-exactly (monthChecks (none .month)) .1 (none .no-check-refuses))
+
+    holds-d : d ≡ figures (P m) (monthDistributed m)
+    holds-d = now-held d₀ ok (is .distributed)
+
+    holds-p : p ≡ figures (P m) (monthPeriodised m)
+    holds-p = now-held p₀ ok (is .periodised)
+
+    holds-l : l ≡ figures (P m) (monthLoss m)
+    holds-l = now-held l₀ ok (is .losses)
+
+    holds-x : x ≡ figures (P m) (monthDifference m)
+    holds-x = now-held x₀ ok (is .differences)
+
+    holds-a : a ≡ figures (P m) (monthAmount m)
+    holds-a = now-held a₀ ok (is .amounts)
+
+    -- DEMAND 3 AND THE SUMS OF EVERY ACCEPTED FILE
+    pub the-month-meets : MonthMeets file (monthOf file) d p l x a
+    unfolding appliedWh monthDistributed monthPeriodised monthLoss monthDifference monthAmount
+    the-month-meets =
+        record { read = read-as; sizes = (as-many (P m) (monthDistributed m) holds-d, as-many (P m) (monthPeriodised m) holds-p, as-many (P m) (monthLoss m) holds-l, as-many (P m) (monthDifference m) holds-x, as-many (P m) (monthAmount m) holds-a); no-hour-missing = λ t b. (fixed-hours-have m judged t b .not-missing, every-hour-has-its-figure m judged t b .not-missing); shares-accepted = W-in-range m judged; applied-within-limits = λ t b. (every-hour-has-its-figure m judged t b .residual-is, every-hour-has-its-figure m judged t b .at-most); demand-3 = demand-3-of-the-month m judged; distributed-since-first = λ i b. signed-at (P m) (monthDistributed m) holds-d i b ∙ since-first m i; distributed-sums = signed-at (P m) (monthDistributed m) holds-d; periodised-sums = unsigned-at (P m) (monthPeriodised m) holds-p; loss-sums = signed-at (P m) (monthLoss m) holds-l; difference-sums = signed-at (P m) (monthDifference m) holds-x; amount-sums = signed-at (P m) (monthAmount m) holds-a; hour-differences = λ t b. hour-differences-add-up m judged t; total-distributed = signed-column (P m) (monthDistributed m) holds-d ∙ all-distributed m judged; total-difference = signed-column (P m) (monthDifference m) holds-x ∙ all-differences m judged; total-amount = signed-column (P m) (monthAmount m) holds-a ∙ all-amounts m judged; total-periodised = unsigned-column (P m) (monthPeriodised m) holds-p ∙ all-periodised m; total-loss = signed-column (P m) (monthLoss m) holds-l ∙ all-losses m judged }

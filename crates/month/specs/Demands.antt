@@ -1,0 +1,89 @@
+-- The demands (00) of the call on a whole file, over the file's bytes: when it accepts and when it refuses (demand 2), and what holds of an accepted month and
+-- of the lent outputs (demand 3, and the sums that must come out). That they hold of every answer that meets the call's promise is proved in proofs/Theorems.
+use mathlib.Core.Bool.{true, false}
+use mathlib.Core.List.{List}
+use mathlib.Core.Path.{_≡_}
+use Prim.Native.Nat.{ℕ, _≤_, _<_}
+use lib.IntN.{ℤ, pos}
+use lib.ListN.{length}
+use Rattle.month.specs.Told.{lentRight}
+use Rattle.rules.specs.Accepted.{NoneRefuses, FirstRefuses}
+use Rattle.rules.specs.Demands.{sumSinceFirst, Demand3}
+use Rattle.rules.specs.Flows.{residual}
+use Rattle.rules.specs.Limits.{greatestW, greatestResidual}
+use Rattle.rules.specs.Month.{flowsAt, shareOf, monthW, appliedFlows, appliedWh, distributed, periodised, allPeriodised, loss, difference, amount, monthChecks}
+use Rattle.rules.specs.MonthFile.{MonthFile, H, P, readMonth}
+use Rattle.rules.specs.Reconciliation.{lossOf}
+use Rattle.rules.specs.Refusals.{Refusal, wrongLength, given, refusal}
+use Rattle.rules.specs.Services.{atℤ}
+use Rattle.rules.specs.Words.{sum, sumℤ, at}
+
+-- The lent outputs stand in the order of the call: distributed, periodised, losses, differences, amounts; d₀, p₀, l₀, x₀ and a₀ are what they hold before it.
+
+-- "A month is accepted exactly when no refusal there applies.": no refusal of reading, none of the month's checks, and not 16
+pub record NoRefusalApplies (file : List ℕ) (d₀ : List ℤ) (p₀ : List ℕ) (l₀ x₀ a₀ : List ℤ) : Type 0 where
+  pub month : MonthFile
+  pub read : readMonth file ≡ given month
+  pub no-check-refuses : NoneRefuses (monthChecks month)
+  pub lent-right : lentRight (P month) (length d₀) (length p₀) (length l₀) (length x₀) (length a₀) ≡ true
+
+-- "The file is read first", "Then 6; then the fixed hours ..": the file is read, and of the month's checks in their order this is the first that refuses
+pub record MonthRefuses (file : List ℕ) (r : Refusal) (place : ℕ) : Type 0 where
+  pub month : MonthFile
+  pub read : readMonth file ≡ given month
+  pub first-refuses : FirstRefuses (monthChecks month) r place
+
+-- "last, for a call on a whole month, 16", at place 0: the file is read, no check of the month refuses, and some lent output has not a place for each party
+pub record LentWrong (file : List ℕ) (d₀ : List ℤ) (p₀ : List ℕ) (l₀ x₀ a₀ : List ℤ) (r : Refusal) (place : ℕ) : Type 0 where
+  pub month : MonthFile
+  pub read : readMonth file ≡ given month
+  pub no-check-refuses : NoneRefuses (monthChecks month)
+  pub lent-wrong : lentRight (P month) (length d₀) (length p₀) (length l₀) (length x₀) (length a₀) ≡ false
+  pub is-16 : r ≡ wrongLength
+  pub at-0 : place ≡ 0
+
+-- the refusal that applies, with its place: one of reading, else one of the month, else 16
+pub data RefusalApplies (file : List ℕ) (d₀ : List ℤ) (p₀ : List ℕ) (l₀ x₀ a₀ : List ℤ) (r : Refusal) (place : ℕ) : Type 0 where
+  of-reading : readMonth file ≡ refusal r place → RefusalApplies file d₀ p₀ l₀ x₀ a₀ r place
+  of-the-month : MonthRefuses file r place → RefusalApplies file d₀ p₀ l₀ x₀ a₀ r place
+  of-the-lent : LentWrong file d₀ p₀ l₀ x₀ a₀ r place → RefusalApplies file d₀ p₀ l₀ x₀ a₀ r place
+
+-- WHAT HOLDS OF AN ACCEPTED MONTH: m is the month that the file is read as; d, p, l, x and a are what the lent outputs hold once the call has answered
+pub record MonthMeets (file : List ℕ) (m : MonthFile) (d : List ℤ) (p : List ℕ) (l x a : List ℤ) : Type 0 where
+  pub read : readMonth file ≡ given m
+  -- "one line per party in order": a figure for each party in every lent output, and nothing more
+  pub sizes : (length d ≡ P m) × (length p ≡ P m) × (length l ≡ P m) × (length x ≡ P m) × (length a ≡ P m)
+  -- "A missing hour is refused and is never taken for zero.": no hour of the fixed or of the applied series has status 0
+  pub no-hour-missing : (t : ℕ) → t < H m → (1 ≤ flowsAt (m .fixed) t .status) × (1 ≤ appliedFlows m t .status)
+  -- "For a month whose load shares are accepted ..": W lies within its limits
+  pub shares-accepted : (1 ≤ monthW m) × (monthW m ≤ greatestW)
+  -- ".. and whose applied residuals all lie within the limits": the residual of an applied hour is not negative and not too large
+  pub applied-within-limits : (t : ℕ) → t < H m → (residual (appliedFlows m t) ≡ pos (appliedWh m t)) × (appliedWh m t ≤ greatestResidual)
+  -- "in every hour the parties' distributed figures add up to the residual to the Wh. After every hour each party's sum of these since the month's first
+  -- hour is its exact share of the residual so far, rounded down or up to a whole Wh. Over any run of hours the sum is less than 2 Wh from the exact share.
+  -- A party with a larger load share never has the smaller sum since the first hour."
+  pub demand-3 : Demand3 (P m) (shareOf m) (appliedWh m)
+  -- "each party's sum of these since the month's first hour": after the last hour it is what the distributed output holds
+  pub distributed-since-first : (i : ℕ) → i < P m → atℤ d i ≡ sumSinceFirst (P m) (shareOf m) (appliedWh m) (H m) i
+  -- "distributed .. (month sums in Wh)": the sum of the hours' figures, each of which is one of those in demand 3
+  pub distributed-sums : (i : ℕ) → i < P m → atℤ d i ≡ sumℤ (H m) (λ t. distributed m t i)
+  -- "periodised .. (month sums in Wh)"
+  pub periodised-sums : (i : ℕ) → i < P m → at p i ≡ sum (H m) (λ t. periodised m t i)
+  -- "loss .. (month sums in Wh)", "Loss is 0 for all but the carrier."
+  pub loss-sums : (i : ℕ) → i < P m → atℤ l i ≡ sumℤ (H m) (λ t. lossOf (m .heading .carrier) (loss m t) i)
+  -- "difference (month sums in Wh)"
+  pub difference-sums : (i : ℕ) → i < P m → atℤ x i ≡ sumℤ (H m) (λ t. difference m t i)
+  -- "the month's amount is the exact sum", in millionths of an øre
+  pub amount-sums : (i : ℕ) → i < P m → atℤ a i ≡ sumℤ (H m) (λ t. amount m t i)
+  -- "The differences of each hour add up to 0"
+  pub hour-differences : (t : ℕ) → t < H m → sumℤ (P m) (difference m t) ≡ pos 0
+  -- "the month's columns add up": "total distributed is the sum of the applied residuals"
+  pub total-distributed : sumℤ (P m) (atℤ d) ≡ pos (sum (H m) (appliedWh m))
+  -- "total difference is 0"
+  pub total-difference : sumℤ (P m) (atℤ x) ≡ pos 0
+  -- the exact amounts too add up to 0: an hour's differences have one price
+  pub total-amount : sumℤ (P m) (atℤ a) ≡ pos 0
+  -- total periodised is the sum of "all periodised consumption" of each hour
+  pub total-periodised : sum (P m) (at p) ≡ sum (H m) (allPeriodised m)
+  -- total loss is the sum of the hours' grid losses, of either sign
+  pub total-loss : sumℤ (P m) (atℤ l) ≡ sumℤ (H m) (loss m)
