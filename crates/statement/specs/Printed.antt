@@ -4,8 +4,8 @@ use Prim.Native.Nat.{ℕ, _≤_}
 use lib.ListN.{take}
 use Rattle.answer.specs.Said.{named}
 use Rattle.rules.specs.Statement.{refusalLine}
-use Rattle.statement.specs.declared.statement_text.Stated.{Stated}
-use Rattle.statement.specs.declared.statement_text.Stated.the-variants.{Lines, Refused}
+use Rattle.statement_text.specs.declared.Stated.{Stated}
+use Rattle.statement_text.specs.declared.Stated.the-variants.{Lines, Refused}
 
 -- the statement's lines lie within the lent buffer
 abbrev pub LinesWithin : Stated → ℕ → Type 0

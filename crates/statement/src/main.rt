@@ -1,7 +1,7 @@
 // THE STATEMENT PROGRAM (01 "The statement program"): it reads one month file from standard input and prints its statement, or `refused N at P`.
 //
-// What is proved of it: it is safe and ends, given that each read and write returns; and the text that it makes for printing is that of `printed`
-// (specs/Printed.antt), for a file that is too long the refusal 1 at 0. What no contract can say, since those of `libc::read` and `libc::write` speak of the count
+// What is proved of it: it is safe and ends, given that each read and write returns; and the text that it makes for printing is the
+// statement of the bytes read, for a file that is too long the refusal 1 at 0. What no contract can say, since those of `libc::read` and `libc::write` speak of the count
 // of one call alone: that the bytes of the buffer are those of standard input, all of them, and that what is handed over arrives. tests/streams tries that on the
 // running program. A program has no exit status: a failure is told on standard error, with no answer or a part of one on standard output.
 use answer::Refusal;
@@ -10,20 +10,18 @@ use libc::STDIN_FILENO;
 use libc::STDOUT_FILENO;
 use statement_text::Stated;
 use text::Written;
-
-mod statement_text;
-
 ghost use lib.ListN.{length, take};
 ghost use mathlib.Core.Path.{_≡_};
 ghost use Prim.Native.Nat.{_≤_};
 ghost use Rattle.rules.specs.Refusals.{fileFault};
-ghost use Rattle.rules.specs.Statement.{refusalLine};
+ghost use Rattle.rules.specs.Statement.{refusalLine, statement};
 ghost use Rattle.statement.specs.Printed.{LinesWithin, refusalText, printed};
 ghost use Rattle.statement.specs.Reading.{PieceWithin, InputWithin};
+ghost use Rattle.statement_text.specs.Lines.{statementRoom};
 ghost use Rattle.text.specs.Text.{longestRefusalLine};
 
-// The most bytes of a statement: the heading line, and a line of columns for each of 64 parties and for the total.
-const ROOM: usize = text::HEADING_ROOM + 65 * text::COLUMNS_ROOM;
+// The most bytes of a statement.
+const ROOM: usize = statement_text::STATEMENT_ROOM;
 
 // What one read gives: bytes at the start of the part it was lent, the end of the input, or a failure.
 enum Piece {
@@ -124,10 +122,11 @@ fn answer_text(stated: Stated, out: &mut [u8]) -> usize
     n
 }
 
-// The text of a file at the start of `out`.
+// The text of a file at the start of `out`: THE STATEMENT OF THE FILE, be it lines or a refusal.
 fn file_text(file: &[u8], out: &mut [u8]) -> usize
-    requires { ⌜ longestRefusalLine ≤ length (now out) ⌝ }
+    requires { ⌜ statementRoom ≤ length (now out) ⌝ }
     ensures within { λ n. ⌜ n ≤ length (now (out .exit)) ⌝ }
+    ensures text { λ n. ⌜ take n (now (out .exit)) ≡ statement (now (file .entry)) ⌝ }
 {
     let stated = statement_text::statement(file, out);
     answer_text(stated, out)
