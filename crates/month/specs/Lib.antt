@@ -1,4 +1,3 @@
 pub mod Windows
 pub mod Outcomes
 pub mod Told
-pub mod Demands

@@ -1,3 +1,4 @@
 pub mod Totals
 pub mod PartyLines
 pub mod Statements
+pub mod Unique

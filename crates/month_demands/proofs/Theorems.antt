@@ -7,11 +7,11 @@ use Prim.Native.Nat.{ℕ, zero, suc, _+_, _<_}
 use native.Mathlib.Nat.{zero-add}
 use lib.IntN.{ℤ, pos}
 use lib.ListN.{length}
-use Rattle.month.specs.Demands.{NoRefusalApplies, RefusalApplies, of-reading, of-the-month, of-the-lent, MonthMeets}
+use Rattle.month_demands.specs.Demands.{NoRefusalApplies, RefusalApplies, of-reading, of-the-month, of-the-lent, MonthMeets}
 use Rattle.month.specs.Told.{summaryOf, verdict, told, lentRight, settleVerdict, Promised}
 use Rattle.month.specs.declared.Settlement.{Settlement}
 use Rattle.month.specs.declared.Settlement.the-variants.{Settled, Refused}
 use Rattle.month.specs.declared.Summary.{Summary}
 use Rattle.month_file.proofs.AcceptedFile.{month-of}
 use Rattle.rules.specs.Accepted.{NoneRefuses}
 use Rattle.rules.specs.Demands.{sumOver, sumSinceFirst}
