@@ -28,7 +28,7 @@ pub record Carried (m : MonthFile) (t : ℕ) (c : Carries) : Type 0 where
 
 -- a file that is read, and no check of its month refuses
 pub record Settleable (file : List ℕ) (s : Sections) : Type 0 where
-  pub accepted : Accepted file s
+  pub is-read : Accepted file s
   pub none-refuses : monthVerdict (monthOf file) ≡ accepted
 
 -- carries that can take the first t of these residuals
