@@ -64,13 +64,13 @@ module _ {file : List ℕ} {d₀ : List ℤ} {p₀ : List ℕ} {x₀ l₀ d : Li
       ∙ ap (loss m) (zero-add t)))
 
 -- two answers with lent outputs that both meet the promise are equal
-pub hours-unique :
-    (file : List ℕ) (start hours : ℕ) {a b : Answer} {d₀ : List ℤ} {p₀ : List ℕ} {x₀ l₀ d d′ : List ℤ} {p p′ : List ℕ} {x l x′ l′ : List ℤ}
-    → Promised file start hours a d₀ p₀ x₀ l₀ d p x l
-    → Promised file start hours b d₀ p₀ x₀ l₀ d′ p′ x′ l′
-    → (a ≡ b) × (d ≡ d′) × (p ≡ p′) × (x ≡ x′) × (l ≡ l′)
-hours-unique file start hours {a} {b} {d₀} {p₀} {x₀} {l₀} u v =
-    (said-once a b same, u .distributed ∙ ap (λ (w : Verdict). afterwards w _ d₀) same ∙ sym (v .distributed), u .periodised ∙ ap (λ (w : Verdict). afterwards w _ p₀) same ∙ sym (v .periodised), u .differences ∙ ap (λ (w : Verdict). afterwards w _ x₀) same ∙ sym (v .differences), u .losses ∙ ap (λ (w : Verdict). afterwards w _ l₀) same ∙ sym (v .losses))
-  where
-    same : said a ≡ said b
-    same = u .answer ∙ sym (v .answer)
+module _ (file : List ℕ) (start hours : ℕ) {a b : Answer} {d₀ : List ℤ} {p₀ : List ℕ} {x₀ l₀ d d′ : List ℤ} {p p′ : List ℕ} {x l x′ l′ : List ℤ} (u : Promised file start hours a d₀ p₀ x₀ l₀ d p x l) (v : Promised file start hours b d₀ p₀ x₀ l₀ d′ p′ x′ l′) where
+  alike : said a ≡ said b
+  alike = u .answer ∙ sym (v .answer)
+
+  held : {A : Type 0} (new old : List A) {o o′ : List A} → o ≡ afterwards (said a) new old → o′ ≡ afterwards (said b) new old → o ≡ o′
+  held new old e f = e ∙ ap (λ (w : Verdict). afterwards w new old) alike ∙ sym f
+
+  pub hours-unique : (a ≡ b) × (d ≡ d′) × (p ≡ p′) × (x ≡ x′) × (l ≡ l′)
+  hours-unique =
+      (said-once a b alike, held _ d₀ (u .distributed) (v .distributed), held _ p₀ (u .periodised) (v .periodised), held _ x₀ (u .differences) (v .differences), held _ l₀ (u .losses) (v .losses))

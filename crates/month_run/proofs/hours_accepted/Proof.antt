@@ -27,10 +27,10 @@ enum-told-4 : tie.Need-enum-told-4
 enum-told-4 c = search needs
 
 returns-2 : tie.Need-returns-2
-returns-2 c = refused-run _ _ _ _ _ _ _ _ (c .before .before .before .before .before .before .before .before .pre) (c .before .before .before .before .before .settle-read .ensures) (c .before .before .before .enum-told .given .1) (c .before .before .asked .ensures) (c .enum-told4 .given .1)
+returns-2 c = refused-run _ _ (c .before .before .before .before .before .before .before .before .pre) (c .before .before .before .before .before .settle-read .ensures) (c .before .before .before .enum-told .given .1) _ _ _ _ _ _ (c .before .before .asked .ensures) (c .enum-told4 .given .1)
 
 run-read-requires : tie.Need-run-read-requires
-run-read-requires c κs = (settleable _ _ _ _ _ _ _ _ (c .before .before .before .before .before .before .before .before .before .before .before .before .pre) (c .before .before .before .before .before .before .before .before .before .settle-read .ensures) (c .before .before .before .before .before .before .before .enum-told .given .1), run-lent _ _ _ _ _ _ _ _ (c .before .before .before .before .before .before .before .before .before .before .before .before .pre) (c .before .before .before .before .before .before .before .before .before .settle-read .ensures) (c .before .before .before .before .before .before .before .enum-told .given .1) (c .before .before .before .before .before .before .asked .ensures) (c .before .before .before .before .enum-told3 .given .1))
+run-read-requires c κs = (settleable _ _ (c .before .before .before .before .before .before .before .before .before .before .before .before .pre) (c .before .before .before .before .before .before .before .before .before .settle-read .ensures) (c .before .before .before .before .before .before .before .enum-told .given .1), run-lent _ _ (c .before .before .before .before .before .before .before .before .before .before .before .before .pre) (c .before .before .before .before .before .before .before .before .before .settle-read .ensures) (c .before .before .before .before .before .before .before .enum-told .given .1) _ _ _ _ _ _ _ (c .before .before .before .before .before .before .asked .ensures) (c .before .before .before .before .enum-told3 .given .1))
 
 same-length : tie.Need-same-length
 same-length c = c .before .before .before .before .distributed-wh .given
@@ -45,7 +45,7 @@ same-length-4 : tie.Need-same-length-4
 same-length-4 c = c .losses-wh .given
 
 returns-3 : tie.Need-returns-3
-returns-3 c = written _ _ _ _ _ _ _ _ (c .before .before .before .before .before .before .before .before .before .before .before .before .before .before .before .before .before .before .pre) (c .before .before .before .before .before .before .before .before .before .before .before .before .before .before .before .settle-read .ensures) (c .before .before .before .before .before .before .before .before .before .before .before .before .before .enum-told .given .1) (c .before .before .before .before .before .before .before .before .before .before .before .before .asked .ensures) (c .before .before .before .before .before .before .before .before .before .before .enum-told3 .given .1) (c .before .before .before .before .before .run-read .ensures)
+returns-3 c = written _ _ (c .before .before .before .before .before .before .before .before .before .before .before .before .before .before .before .before .before .before .pre) (c .before .before .before .before .before .before .before .before .before .before .before .before .before .before .before .settle-read .ensures) (c .before .before .before .before .before .before .before .before .before .before .before .before .before .enum-told .given .1) _ _ _ _ _ _ (c .before .before .before .before .before .before .before .before .before .before .before .before .asked .ensures) (c .before .before .before .before .before .before .before .before .before .before .enum-told3 .given .1) (c .before .before .before .before .before .run-read .ensures)
 
 pub hours-accepted-spec : {M : Type 1} → statement M
 hours-accepted-spec =
