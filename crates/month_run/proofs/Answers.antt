@@ -2,7 +2,7 @@
 use mathlib.Core.Bool.{true}
 use mathlib.Core.List.{List}
 use mathlib.Core.Path.{_≡_, refl, sym, _∙_, ap, ap₂, subst}
-use Prim.Native.Nat.{ℕ, _+_, _*_, _≤_, _<_}
+use Prim.Native.Nat.{ℕ, _*_}
 use native.Mathlib.Omega.{arith}
 use lib.IntN.{ℤ}
 use lib.ListN.{length}
@@ -18,9 +18,9 @@ use Rattle.month_file.proofs.AcceptedFile.{read-as, hours-are, parties-are}
 use Rattle.month_run.specs.Run.{inMonth, lentRight, askedVerdict, runVerdict, Promised}
 use Rattle.month_run.specs.Running.{Settleable, RunLent, RunIs}
 use Rattle.month_run.proofs.Verdicts.{run-inside, lengths}
-use Rattle.rules.specs.Month.{monthOf, monthVerdict, verdictOn, fileVerdict}
-use Rattle.rules.specs.MonthFile.{MonthFile, H, P}
-use Rattle.rules.specs.Refusals.{outOfRange, wrongLength, Verdict, accepted, refused, unless, andThen, afterwards}
+use Rattle.rules.specs.Month.{monthOf, verdictOn, fileVerdict}
+use Rattle.rules.specs.MonthFile.{H, P}
+use Rattle.rules.specs.Refusals.{outOfRange, wrongLength, Verdict, refused, unless, andThen, afterwards}
 use Rattle.rules.proofs.Refusals.{both-accept, unless-exactly}
 
 module _ (file : List ℕ) (start hours : ℕ) (d : List ℤ) (p : List ℕ) (x l : List ℤ) where

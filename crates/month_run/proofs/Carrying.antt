@@ -1,12 +1,12 @@
 -- The carries handed on: over the hours before a run, and by one hour of it. "The carry is handed on from hour to hour."
 use mathlib.Core.List.{List}
 use mathlib.Core.Path.{_≡_, refl, sym, _∙_, ap, ap₂, subst}
-use Prim.Native.Nat.{ℕ, suc, _+_, _*_, _≤_, _<_, zero-le}
+use Prim.Native.Nat.{ℕ, _+_, _≤_, _<_, zero-le}
 use native.Mathlib.Nat.{le-antisymm}
 use native.Mathlib.Numerals.{add-one}
 use native.Mathlib.Omega.{arith}
-use lib.IntN.{ℤ, pos, _-ℤ_}
-use lib.ListN.{length, getD}
+use lib.IntN.{pos, _-ℤ_}
+use lib.ListN.{getD}
 use Rattle.apportion.specs.Filled.{Filled}
 use Rattle.apportion.specs.Good.{Ready, Next, shareIn, figureAfter}
 use Rattle.apportion.specs.declared.Carries.{Carries}

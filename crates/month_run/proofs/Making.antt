@@ -2,7 +2,7 @@
 use mathlib.Core.Bool.{Bool, not}
 use mathlib.Core.List.{List}
 use mathlib.Core.Path.{_≡_, refl, sym, _∙_, ap, subst}
-use Prim.Native.Nat.{ℕ, suc, _+_, _≤_, _<_}
+use Prim.Native.Nat.{ℕ, suc, _≤_, _<_}
 use native.Mathlib.Omega.{arith}
 use lib.Dec.{eqb}
 use lib.ListN.{length}
@@ -14,7 +14,6 @@ use Rattle.apportion.specs.Filled.{Filled}
 use Rattle.apportion.specs.Good.{Startable, Started}
 use Rattle.apportion.specs.declared.Carries.{Carries}
 use Rattle.apportion.proofs.Arrays.{filled-as}
-use Rattle.month.specs.Windows.{MonthKnown}
 use Rattle.month.proofs.Chain as C
 use Rattle.month_checks.specs.Checks.{seriesVerdict, curveReadingsVerdict, SeriesKnown, CurveAsked, CurveKnown}
 use Rattle.month_file.specs.declared.Sections.{Sections}
@@ -25,10 +24,10 @@ use Rattle.month_series.specs.Series.{judgedVerdict}
 use Rattle.month_series.specs.declared.Judged.{Judged}
 use Rattle.month_series.specs.declared.Judged.the-variants.{Figures, Refused}
 use Rattle.residual.specs.Applied.{appliedOf}
-use Rattle.rules.specs.Month.{monthOf, shareOf, appliedWh, monthVerdict, periodisedVerdict}
+use Rattle.rules.specs.Month.{monthOf, shareOf, appliedWh, periodisedVerdict}
 use Rattle.rules.specs.MonthFile.{MonthFile, H, P}
 use Rattle.rules.specs.Refusals.{accepted, andThen, inTurn}
-use Rattle.rules.specs.Words.{sum, at, figures}
+use Rattle.rules.specs.Words.{sum, at}
 use Rattle.rules.proofs.Loops.{figures-length, figures-at}
 use Rattle.rules.proofs.Month as M
 use Rattle.rules.proofs.Refusals.{both-accept, refused-not-accepted}

@@ -1,11 +1,11 @@
 -- One hour of a run: its places in the lent outputs are the next ones, and what is written there is the hour's.
 use mathlib.Core.List.{List}
-use mathlib.Core.Path.{_≡_, refl, sym, _∙_, ap, ap₂, subst}
-use Prim.Native.Nat.{ℕ, suc, _+_, _*_, _/_, _%_, _≤_, _<_}
+use mathlib.Core.Path.{_≡_, sym, _∙_, ap, ap₂, subst}
+use Prim.Native.Nat.{ℕ, _+_, _*_, _/_, _%_, _≤_, _<_}
 use native.Mathlib.Nat.{add-zero, add-assoc, mul-le-mul-right, mul-add-div-right, mul-add-mod-self-right, div-eq-of-lt, mod-eq-of-lt}
 use native.Mathlib.Omega.{arith}
-use lib.IntN.{ℤ, pos}
-use lib.ListN.{length, set}
+use lib.IntN.{ℤ}
+use lib.ListN.{length}
 use Rattle.apportion.specs.Good.{Ready, Next}
 use Rattle.apportion.specs.declared.Carries.{Carries}
 use Rattle.month_file.specs.declared.Sections.{Sections}
@@ -17,7 +17,7 @@ use Rattle.month_run.specs.Run.{distributedInRun, periodisedInRun, diffe
 use Rattle.month_run.specs.Running.{Carried, Running, HourLent, HourWritten}
 use Rattle.month_run.proofs.Carrying as C
 use Rattle.rules.specs.Month.{monthOf, distributed, periodised, difference, loss}
-use Rattle.rules.specs.MonthFile.{MonthFile, H, P}
+use Rattle.rules.specs.MonthFile.{MonthFile, P}
 use Rattle.rules.proofs.Loops.{Filling, fill-next}
 
 -- place t x n + i is hour t, party i

@@ -1,7 +1,7 @@
 -- The windows of a run, and the hours of each: the hours before are written, and each window takes the next ones.
 use mathlib.Core.List.{List}
 use mathlib.Core.Path.{_≡_, refl, sym, _∙_, ap, subst}
-use Prim.Native.Nat.{ℕ, suc, _+_, _-_, _*_, _/_, _≤_, _<_, min, zero-le}
+use Prim.Native.Nat.{ℕ, _+_, _-_, _*_, _/_, _≤_, _<_, min, zero-le}
 use native.Mathlib.Nat.{add-zero, add-assoc, zero-mul, le-trans, le-antisymm, mul-le-mul-left, div-mul-le-self, le-div-iff-mul-le}
 use native.Mathlib.Omega.{arith}
 use lib.IntN.{ℤ}
@@ -20,8 +20,7 @@ use Rattle.month_run.specs.Run.{distributedInRun, periodisedInRun, diffe
 use Rattle.month_run.specs.Running.{Carried, RunKnown, RunLent, Running, RunIs}
 use Rattle.rules.specs.Month.{monthOf}
 use Rattle.rules.specs.MonthFile.{MonthFile, H, P}
-use Rattle.rules.specs.Words.{figures}
-use Rattle.rules.proofs.Loops.{Filling, fill-start, fill-end}
+use Rattle.rules.proofs.Loops.{fill-start, fill-end}
 
 -- as many hours as losses
 lengthwise : {m : MonthFile} {start all j : ℕ} {c : Carries} {d : List ℤ} {p : List ℕ} {x l : List ℤ} → Running m start all j c d p x l → Running m start (length l) j c d p x l

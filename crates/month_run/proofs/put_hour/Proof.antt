@@ -1,6 +1,5 @@
 -- `month_run::put_hour` meets its contract: each output is filled from the hour's place on. Assumes nothing.
 use native.Mathlib.Omega.{arith}
-use mathlib.Core.Path.{refl}
 use borrow.Author.Needs.{needs}
 use Rattle.month_run.proofs.put_hour.Statement.{statement}
 use Rattle.month_run.proofs.put_hour.Tie as tie
