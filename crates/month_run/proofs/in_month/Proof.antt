@@ -5,10 +5,10 @@ use Rattle.month_run.proofs.in_month.Statement.{statement}
 use Rattle.month_run.proofs.in_month.Tie as tie
 
 returns : tie.Need-returns
-returns c = no-hours _ _ _ (c .if1 .taken)
+returns c = no-hours _ _ _ (omega arith)
 
 returns-2 : tie.Need-returns-2
-returns-2 c = too-many _ _ _ (c .if2 .taken)
+returns-2 c = too-many _ _ _ (omega arith)
 
 returns-3 : tie.Need-returns-3
 returns-3 c = by-rest _ _ _ (omega arith) (omega arith)

@@ -28,7 +28,7 @@ mul-run-hour : tie.Need-mul-run-hour Inv-loop μ-loop
 mul-run-hour c = omega (arith, c .before .before .before .before .before .before .pre .0 .readable .start-short)
 
 shared-slice-read-run-hour : tie.Need-shared-slice-read-run-hour Inv-loop μ-loop
-shared-slice-read-run-hour c = applied-there (c .before .before .before .before .before .before .before .pre .0) (c .before .before .before .before .before .before .before .pre .1 .0) (c .before .before .loop .inv) (omega arith)
+shared-slice-read-run-hour c = omega (arith, applied-there (c .before .before .before .before .before .before .before .pre .0) (c .before .before .before .before .before .before .before .pre .1 .0) (c .before .before .loop .inv) (omega arith))
 
 run-hour-requires : tie.Need-run-hour-requires Inv-loop μ-loop
 run-hour-requires c κs = (known-here (c .before .before .before .before .before .before .before .before .before .before .before .pre .0) (c .before .before .before .before .before .before .before .before .before .before .before .pre .1 .0) (c .before .before .before .before .before .before .loop .inv) (omega arith), (in-run (c .before .before .before .before .before .before .before .before .before .before .before .pre .0) (c .before .before .before .before .before .before .before .before .before .before .before .pre .1 .0) (c .before .before .before .before .before .before .loop .inv) (omega arith), running-here (c .before .before .before .before .before .before .before .before .before .before .before .pre .0) (c .before .before .before .before .before .before .before .before .before .before .before .pre .1 .0) (c .before .before .before .before .before .before .loop .inv) (omega arith)))
