@@ -1,0 +1,83 @@
+-- The call on a whole file: what its answer is in each case, and what the lent outputs hold.
+use mathlib.Core.Bool.{true}
+use mathlib.Core.List.{List}
+use mathlib.Core.Path.{_≡_, refl, sym, _∙_, ap, ap₂, subst}
+use Prim.Native.Nat.{ℕ, _*_}
+use native.Mathlib.Omega.{arith}
+use lib.IntN.{ℤ}
+use lib.ListN.{length}
+use Rattle.answer.specs.Said.{said, named}
+use Rattle.answer.specs.declared.Answer.{Answer}
+use Rattle.answer.specs.declared.Answer.the-variants.{Done, Refused}
+use Rattle.answer.specs.declared.Refusal.{Refusal}
+use Rattle.month.specs.Outcomes.{OutcomeIs}
+use Rattle.month.specs.declared.Outcome.{Outcome}
+use Rattle.month_file.specs.Fields.{Accepted}
+use Rattle.month_file.specs.declared.Sections.{Sections}
+use Rattle.month_file.proofs.AcceptedFile.{read-as, hours-are, parties-are}
+use Rattle.month_run.specs.Run.{inMonth, lentRight, askedVerdict, runVerdict, Promised}
+use Rattle.month_run.specs.Running.{Settleable, RunLent, RunIs}
+use Rattle.month_run.proofs.Verdicts.{run-inside, lengths}
+use Rattle.rules.specs.Month.{monthOf, verdictOn, fileVerdict}
+use Rattle.rules.specs.MonthFile.{H, P}
+use Rattle.rules.specs.Refusals.{outOfRange, wrongLength, Verdict, refused, unless, andThen, afterwards}
+use Rattle.rules.proofs.Refusals.{both-accept, unless-exactly}
+
+module _ (file : List ℕ) (start hours : ℕ) (d : List ℤ) (p : List ℕ) (x l : List ℤ) where
+  abbrev asked : Verdict
+  asked = askedVerdict (H (monthOf file)) (P (monthOf file)) start hours (length d) (length p) (length x) (length l)
+
+  -- a refused call leaves every lent output as it was
+  pub refused-call : {r : Answer} {v : Refusal} {place : ℕ} → r ≡ Refused v place → said r ≡ runVerdict file start hours (length d) (length p) (length x) (length l) → Promised file start hours r d p x l d p x l
+  unfolding afterwards
+  refused-call {r} {v} {place} e is =
+      record { answer = is; distributed = rw e refl; periodised = rw e refl; differences = rw e refl; losses = rw e refl }
+
+  -- where the file itself is refused, nothing more is asked
+  pub refused-file : {r : Answer} {v : Refusal} {place : ℕ} → r ≡ Refused v place → fileVerdict file ≡ refused (named v) place → Promised file start hours r d p x l d p x l
+  unfolding runVerdict andThen
+  refused-file {r} {v} {place} e is =
+      refused-call e (ap said e ∙ sym (ap (λ (u : Verdict). andThen u asked) is))
+
+module _ (file : List ℕ) (s : Sections) (ok : Accepted file s) {outcome : Outcome} (is : OutcomeIs (monthOf file) outcome) (done : outcome .answer ≡ Done) where
+  pub settleable : Settleable file s
+  settleable = record { is-read = ok; none-refuses = sym (is .verdict) ∙ ap said done }
+
+  -- the month is not refused, so what is asked of it decides
+  module _ (start hours d p x l : ℕ) (right : Answer) (judged : said right ≡ askedVerdict (s .heading .hours) (s .heading .parties) start hours d p x l) where
+    run-verdict : said right ≡ runVerdict file start hours d p x l
+    unfolding runVerdict andThen fileVerdict verdictOn
+    run-verdict =
+        judged
+        ∙ sym
+        (ap (λ (u : Verdict). andThen u (askedVerdict (H (monthOf file)) (P (monthOf file)) start hours d p x l))
+        (ap verdictOn (read-as file s ok) ∙ settleable .none-refuses)
+        ∙ ap₂ (λ (h n : ℕ). askedVerdict h n start hours d p x l) (sym (hours-are file s ok)) (sym (parties-are file s ok)))
+
+    module _ (passed : right ≡ Done) where
+      both : (inMonth (s .heading .hours) start hours ≡ true) × (lentRight (hours * s .heading .parties) hours d p x l ≡ true)
+      unfolding askedVerdict
+      both =
+          let two = both-accept (unless (inMonth (s .heading .hours) start hours) outOfRange 0) (unless (lentRight (hours * s .heading .parties) hours d p x l) wrongLength 0) (sym judged ∙ ap said passed) in
+          (unless-exactly _ outOfRange 0 .0 (two .0), unless-exactly _ wrongLength 0 .0 (two .1))
+
+      sizes : (d ≡ hours * s .heading .parties) × (p ≡ hours * s .heading .parties) × (x ≡ hours * s .heading .parties) × (l ≡ hours)
+      sizes = lengths (hours * s .heading .parties) hours d p x l (both .1)
+
+      as-many : {k : ℕ} → k ≡ hours * s .heading .parties → k ≡ l * P (monthOf file)
+      as-many e = e ∙ ap₂ (λ (h n : ℕ). h * n) (sym (sizes .3)) (parties-are file s ok)
+
+      pub run-lent : RunLent (monthOf file) start d p x l
+      run-lent =
+          record { inside = omega (arith, run-inside (s .heading .hours) start hours (both .0) .1, sizes .3, hours-are file s ok); distributed-size = as-many (sizes .0); periodised-size = as-many (sizes .1); differences-size = as-many (sizes .2) }
+
+  module _ (start hours : ℕ) (d : List ℤ) (p : List ℕ) (x l : List ℤ) {right : Answer} (judged : said right ≡ askedVerdict (s .heading .hours) (s .heading .parties) start hours (length d) (length p) (length x) (length l)) where
+    -- 4 or 16
+    pub refused-run : {v : Refusal} {place : ℕ} → right ≡ Refused v place → Promised file start hours right d p x l d p x l
+    refused-run e = refused-call file start hours d p x l e (run-verdict start hours (length d) (length p) (length x) (length l) right judged)
+
+    pub written : right ≡ Done → {d′ : List ℤ} {p′ : List ℕ} {x′ l′ : List ℤ} → RunIs (monthOf file) start (length l) d′ p′ x′ l′ → Promised file start hours Done d p x l d′ p′ x′ l′
+    unfolding afterwards
+    written passed {d′} {p′} {x′} {l′} r =
+        let run : RunIs (monthOf file) start hours d′ p′ x′ l′ = subst (λ (h : ℕ). RunIs (monthOf file) start h d′ p′ x′ l′) (sizes start hours (length d) (length p) (length x) (length l) right judged passed .3) r in
+        record { answer = sym (ap said passed) ∙ run-verdict start hours (length d) (length p) (length x) (length l) right judged; distributed = run .distributed; periodised = run .periodised; differences = run .differences; losses = run .losses }

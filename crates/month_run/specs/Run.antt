@@ -1,0 +1,58 @@
+-- A run of hours of a month (01 "Distributed consumption", "Periodised consumption", "Reconciliation"): every party's distributed, periodised and difference
+-- in each of them, and the loss. Figures stand hour by hour and within an hour party by party.
+use mathlib.Core.Bool.{Bool, _&&_}
+use mathlib.Core.List.{List}
+use mathlib.Core.Path.{_≡_}
+use Prim.Native.Nat.{ℕ, _+_, _*_, _/_, _%_}
+use lib.Dec.{eqb, leb}
+use lib.IntN.{ℤ}
+use lib.ListN.{length}
+use Rattle.answer.specs.Said.{said}
+use Rattle.answer.specs.declared.Answer.{Answer}
+use Rattle.rules.specs.Month.{monthOf, fileVerdict, distributed, periodised, difference, loss}
+use Rattle.rules.specs.MonthFile.{MonthFile, H, P}
+use Rattle.rules.specs.Refusals.{outOfRange, wrongLength, Verdict, unless, andThen, afterwards}
+use Rattle.rules.specs.Words.{figures}
+
+-- What stands at the k-th place of a run from hour `start` on: of its hour k / P the party k % P.
+unfoldable pub distributedInRun : MonthFile → ℕ → ℕ → ℤ
+distributedInRun m start k = distributed m (start + k / P m) (k % P m)
+
+unfoldable pub periodisedInRun : MonthFile → ℕ → ℕ → ℕ
+periodisedInRun m start k = periodised m (start + k / P m) (k % P m)
+
+unfoldable pub differenceInRun : MonthFile → ℕ → ℕ → ℤ
+differenceInRun m start k = difference m (start + k / P m) (k % P m)
+
+-- the loss of its k-th hour
+unfoldable pub lossInRun : MonthFile → ℕ → ℕ → ℤ
+lossInRun m start k = loss m (start + k)
+
+-- a run is of one hour or more, and lies in the month's hours
+unfoldable pub inMonth : ℕ → ℕ → ℕ → Bool
+inMonth all start hours = leb 1 hours && leb (start + hours) all
+
+-- every lent output has a place for each figure
+unfoldable pub lentRight : ℕ → ℕ → ℕ → ℕ → ℕ → ℕ → Bool
+lentRight places hours distributed periodised differences losses =
+    ((eqb distributed places && eqb periodised places) && eqb differences places) && eqb losses hours
+
+-- 4 for a run that does not lie in the month, last 16
+unfoldable pub askedVerdict : ℕ → ℕ → ℕ → ℕ → ℕ → ℕ → ℕ → ℕ → Verdict
+askedVerdict all parties start hours distributed periodised differences losses =
+    andThen (unless (inMonth all start hours) outOfRange 0)
+    (unless (lentRight (hours * parties) hours distributed periodised differences losses) wrongLength 0)
+
+-- THE VERDICT OF THE CALL: all that refuses the month, over all its hours, and then what is asked of it
+unfoldable pub runVerdict : List ℕ → ℕ → ℕ → ℕ → ℕ → ℕ → ℕ → Verdict
+runVerdict file start hours distributed periodised differences losses =
+    andThen (fileVerdict file)
+    (askedVerdict (H (monthOf file)) (P (monthOf file)) start hours distributed periodised differences losses)
+
+-- THE PROMISE OF THE CALL: its answer, and what each lent output holds afterwards
+pub record Promised (file : List ℕ) (start hours : ℕ) (r : Answer) (d₀ : List ℤ) (p₀ : List ℕ) (x₀ l₀ d : List ℤ) (p : List ℕ) (x l : List ℤ) : Type 0 where
+  pub answer : said r ≡ runVerdict file start hours (length d₀) (length p₀) (length x₀) (length l₀)
+  pub distributed : d ≡ afterwards (said r) (figures (hours * P (monthOf file)) (distributedInRun (monthOf file) start)) d₀
+  pub periodised : p ≡ afterwards (said r) (figures (hours * P (monthOf file)) (periodisedInRun (monthOf file) start)) p₀
+  pub differences : x ≡ afterwards (said r) (figures (hours * P (monthOf file)) (differenceInRun (monthOf file) start)) x₀
+  pub losses : l ≡ afterwards (said r) (figures hours (lossInRun (monthOf file) start)) l₀
