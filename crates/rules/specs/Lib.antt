@@ -16,6 +16,7 @@ pub mod MonthFile
 pub mod Month
 pub mod Services
 pub mod Statement
+pub mod HoursReport
 pub mod WorkedCases
 pub mod WorkedMonths
 pub mod WorkedServices
