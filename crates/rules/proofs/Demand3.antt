@@ -19,11 +19,11 @@ use Rattle.rules.proofs.Sums.{sum-add, sum-scale, sum-cong, sum-le, sum
 
 module _ (n : ℕ) (share : ℕ → ℕ) (some : 0 < W n share) where
   -- One division, for each r: share x r is floor x W and the remainder.
-  divided : (r i : ℕ) → share i * r ≡ roundedDown n share r i * W n share + remainder n share r i
+  pub divided : (r i : ℕ) → share i * r ≡ roundedDown n share r i * W n share + remainder n share r i
   unfolding roundedDown remainder
   divided r i = sym (div-add-mod' (share i * r) (W n share))
 
-  remainder-below : (r i : ℕ) → remainder n share r i < W n share
+  pub remainder-below : (r i : ℕ) → remainder n share r i < W n share
   unfolding remainder
   remainder-below r i = mod-lt (share i * r) some
 

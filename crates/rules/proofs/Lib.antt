@@ -9,6 +9,8 @@ pub mod Periodised
 pub mod Reconciliation
 pub mod Whole
 pub mod Month
+pub mod Lines
+pub mod HoursReport
 pub mod WorkedCases
 pub mod WorkedMonths
 pub mod WorkedServices
