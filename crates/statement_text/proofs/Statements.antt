@@ -21,10 +21,10 @@ use Rattle.rules.specs.Month.{monthOf, monthVerdict, estimatedHours, verdictOn,
 use Rattle.rules.specs.MonthFile.{MonthFile, H, P, readMonth}
 use Rattle.rules.specs.Refusals as R
 use Rattle.rules.specs.Statement as T
-use Rattle.statement_text.specs.Lines.{Settled, partyLines, LinePut, statementRoom}
+use Rattle.statement_text.specs.Lines.{Settled, partyLines, statementRoom}
 use Rattle.statement_text.specs.Stating.{textVerdict, Promised}
 use Rattle.statement_text.specs.declared.Stated.the-variants as S
-use Rattle.text.specs.Text.{Put, headingRoom, columnsRoom, atStart}
+use Rattle.text.specs.Text.{Put, LinePut, headingRoom, columnsRoom, atStart}
 use Rattle.text.proofs.Puts.{put-then, put-as, put-length, put-at-start}
 
 module _ (file : List ℕ) (s : Sections) (ok : Accepted file s) {outcome : Outcome} (is : OutcomeIs (monthOf file) outcome) (done : outcome .answer ≡ Done) where

@@ -2,5 +2,6 @@ pub mod Puts
 pub mod Digits
 pub mod Signs
 pub mod Lines
+pub mod Runs
 pub mod RefusalLine
 pub mod Unique

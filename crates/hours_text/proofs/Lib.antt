@@ -1,0 +1,3 @@
+pub mod Statuses
+pub mod HourLines
+pub mod PartyLines
