@@ -157,7 +157,7 @@ fn cut(rest: &[u64; 64], n: usize, v: u64, spare: u64) -> usize
 
 // "The Wh still left over go one each to the parties with the largest remainders": 1 for each of the `left` of n with the largest `rest`, else 0: for those
 // that come before a place in that order, which is found without comparing each with all. Nothing here knows of shares or Wh.
-pub fn one_each(rest: &[u64; 64], n: usize, left: u64) -> [u64; 64]
+fn one_each(rest: &[u64; 64], n: usize, left: u64) -> [u64; 64]
     requires { ⌜ n ≤ 64 ⌝ }
     ensures { λ r. ⌜ Filled 0 (oneEach n (at (now (rest .entry))) left) n r ⌝ }
 {

@@ -29,7 +29,7 @@ fn wide(x: u32) -> u64
 
 // E x weights passes 64 bits (1,000,000,000 x 8,784,000,000,000), so the product goes by two digits of 20 bits; the remainder after the first keeps the
 // second within 64.
-pub fn product_mod(a: u64, b: u64, m: u64) -> u64
+fn product_mod(a: u64, b: u64, m: u64) -> u64
     requires { ⌜ (a ≤ greatestEnergy) × ((b ≤ greatestWhole) × ((0 < m) × (m ≤ greatestWhole))) ⌝ }
     ensures { λ r. ⌜ r ≡ a * b % m ⌝ }
 {
