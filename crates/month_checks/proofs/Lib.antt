@@ -1,3 +1,4 @@
 pub mod Hours
 pub mod Weighed
 pub mod Numbers
+pub mod Making
