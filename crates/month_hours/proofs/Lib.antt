@@ -1,4 +1,5 @@
 pub mod Bounds
 pub mod Settling
+pub mod Carrying
 pub mod Afterwards
 pub mod Windows

@@ -7,6 +7,7 @@ use lib.IntN.{ℤ, pos}
 use lib.ListN.{length}
 use Rattle.apportion.specs.Filled.{Filled}
 use Rattle.apportion.specs.Good.{Good}
+use Rattle.apportion.specs.declared.Carries.{Carries}
 use Rattle.month_file.specs.Fields.{Accepted}
 use Rattle.month_file.specs.declared.Sections.{Sections}
 use Rattle.month_hour.specs.Column.{column, Column, addable}
@@ -58,12 +59,16 @@ sumTo figure t i = sumℤ t (λ u. figure u i)
 unfoldable pub sumToℕ : (ℕ → ℕ → ℕ) → ℕ → ℕ → ℕ
 sumToℕ figure t i = sum t (λ u. figure u i)
 
--- WHAT STANDS AFTER THE FIRST t HOURS: the carries of their residuals, and their sums
+-- THE CARRIES OF THE FIRST t HOURS: of the month's shares and of their residuals
+pub record Carried (m : MonthFile) (t : ℕ) (c : Carries) : Type 0 where
+  pub good : Good c
+  pub parties : c .parties ≡ P m
+  pub share : Filled 0 (shareOf m) (P m) (c .share)
+  pub residuals : c .«sum_wh» ≡ sum t (appliedWh m)
+
+-- WHAT STANDS AFTER THE FIRST t HOURS: their carries and their sums
 pub record After (m : MonthFile) (t : ℕ) (x : State) : Type 0 where
-  pub good : Good (x .carries)
-  pub parties : x .carries .parties ≡ P m
-  pub share : Filled 0 (shareOf m) (P m) (x .carries .share)
-  pub residuals : x .carries .«sum_wh» ≡ sum t (appliedWh m)
+  pub carried : Carried m t (x .carries)
   pub limited : (u : ℕ) → u < t → allPeriodised m u ≤ greatestPeriodised
   pub distributed : Filled (pos 0) (sumTo (distributed m) t) (P m) (x .sums .«distributed_wh»)
   pub periodised : Filled 0 (sumToℕ (periodised m) t) (P m) (x .sums .«periodised_wh»)
