@@ -6,6 +6,7 @@ use native.Mathlib.Nat.{le-of-eq}
 use native.Mathlib.Omega.{arith}
 use lib.IntN.{ℤ, pos}
 use lib.ListN.{length, getD}
+use Rattle.distances.specs.declared.Distances.{Distances}
 use Rattle.hours_text.specs.Lines as L
 use Rattle.month_file.specs.Fields.{PartyAsked, GlnIs}
 use Rattle.month_file.specs.declared.Sections.{Sections}
@@ -33,7 +34,7 @@ module _ {file : List ℕ} {s : Sections} {w i : ℕ} {least most : ℤ} (asked 
       rw (gln-read file s (asked .read) is, of-a ∙ asked .least-is, of-b ∙ asked .most-is, asked .w-is) refl
 
 -- ALL PARTIES' LINES
-module _ {file : List ℕ} {s : Sections} {w : ℕ} {smallest largest : List ℤ} (known : L.Distanced file s w smallest largest) where
+module _ {file : List ℕ} {s : Sections} {w : ℕ} {x : Distances} (known : L.Distanced file s w x) where
   n-is : s .heading .parties ≡ P (monthOf file)
   n-is = parties-are file s (known .read)
 
@@ -41,7 +42,7 @@ module _ {file : List ℕ} {s : Sections} {w : ℕ} {smallest largest : List ℤ
   unfolding P
   few = omega (arith, n-is, heading-facts (monthOf file .heading) (month-whole file s (known .read) .head) .parties .1)
 
-  pub party-asked : {i : ℕ} → i < s .heading .parties → {a b : ℤ} → a ≡ getD smallest i (pos 0) → b ≡ getD largest i (pos 0) → L.PartyAsked file s w i a b
+  pub party-asked : {i : ℕ} → i < s .heading .parties → {a b : ℤ} → a ≡ getD (x .smallest) i (pos 0) → b ≡ getD (x .largest) i (pos 0) → L.PartyAsked file s w i a b
   party-asked {i} b of-a of-b =
       let there : i < P (monthOf file) = omega (arith, n-is) in
       record { read = known .read; party = there; w-is = known .w-is; least-is = of-a ∙ known .smallest-is .below i there; most-is = of-b ∙ known .largest-is .below i there }

@@ -1,28 +1,19 @@
 -- The statuses of an hour: of its fixed figure and, by whether the file has a refixed series, of its applied one.
-use mathlib.Core.List.{List, [], _∷_}
+use mathlib.Core.List.{List}
 use mathlib.Core.Logic.{_⊎_, ⊎-elim}
 use mathlib.Core.Path.{_≡_, refl, sym, _∙_, ap}
 use Prim.Native.Nat.{ℕ, _<_}
 use native.Mathlib.Nat.{pos-of-ne-zero}
 use native.Mathlib.Omega.{arith}
 use lib.ListN.{length}
+use Rattle.month_checks.proofs.Applied.{those-applied, others-applied}
 use Rattle.month_file.specs.Fields.{FixedAsked, RefixedAsked, FixedIs, RefixedIs}
 use Rattle.month_file.specs.declared.Sections.{Sections}
 use Rattle.month_file.proofs.AcceptedFile.{month-whole, hours-are, refixed-are, fixed-read, refixed-read}
 use Rattle.record.specs.declared.Flows as CFlows
-use Rattle.rules.specs.Flows.{Flows, appliedSeries}
+use Rattle.rules.specs.Flows.{Flows}
 use Rattle.rules.specs.Month.{monthOf, flowsAt, appliedFlows}
 use Rattle.rules.specs.MonthFile.{MonthFile, H}
-
-those-applied : (fixed refixed : List Flows) → 0 < length refixed → appliedSeries fixed refixed ≡ refixed
-unfolding appliedSeries
-those-applied fixed [] b = absurd (omega arith)
-those-applied fixed (f ∷ fs) b = refl
-
-others-applied : (fixed refixed : List Flows) → length refixed ≡ 0 → appliedSeries fixed refixed ≡ fixed
-unfolding appliedSeries
-others-applied fixed [] e = refl
-others-applied fixed (f ∷ fs) e = absurd (omega arith)
 
 module _ {file : List ℕ} {s : Sections} {t : ℕ} (asked : FixedAsked file s t) where
   abbrev m : MonthFile

@@ -5,10 +5,11 @@ use Prim.Native.Nat.{ℕ, _+_, _-_, _≤_, _<_, min}
 use lib.IntN.{ℤ, pos}
 use lib.ListN.{length}
 use Rattle.apportion.specs.Filled.{Filled}
+use Rattle.distances.specs.declared.Distances.{Distances}
 use Rattle.month_file.specs.Fields.{Accepted}
 use Rattle.month_file.specs.declared.Sections.{Sections}
 use Rattle.rules.specs.HoursReport.{hourLine, allDistributed, smallestDistance, largestDistance, distancesLine}
-use Rattle.rules.specs.Month.{monthOf, monthW, fixedWh, appliedWh, curve, allPeriodised, monthVerdict}
+use Rattle.rules.specs.Month.{monthOf, monthW, fixedWh, appliedWh, curve, allPeriodised, estimatedHours, monthVerdict}
 use Rattle.rules.specs.MonthFile.{MonthFile, H, P}
 use Rattle.rules.specs.Refusals.{accepted}
 use Rattle.rules.specs.Services.{atℤ}
@@ -57,12 +58,23 @@ pub record Known (file : List ℕ) (s : Sections) (fixed applied curveNumbers : 
 pub record Inside (file : List ℕ) (start hours : ℕ) : Type 0 where
   pub inside : start + hours ≤ H (monthOf file)
 
+-- the first hours, and the number of applied hours with status 2, which the heading line tells
+pub record FirstAsked (file : List ℕ) (estimated hours : ℕ) : Type 0 where
+  pub counted : estimated ≡ estimatedHours (monthOf file)
+  pub hours-are : hours ≡ min (H (monthOf file)) firstHours
+
+-- each lent buffer has its room
+pub record Roomy (first rest parties : ℕ) : Type 0 where
+  pub first-room : firstRoom ≤ first
+  pub rest-room : restRoom ≤ rest
+  pub parties-room : partiesRoom ≤ parties
+
 -- an accepted month with its parties' smallest and largest distances
-pub record Distanced (file : List ℕ) (s : Sections) (w : ℕ) (smallest largest : List ℤ) : Type 0 where
+pub record Distanced (file : List ℕ) (s : Sections) (w : ℕ) (x : Distances) : Type 0 where
   pub read : Accepted file s
   pub w-is : w ≡ monthW (monthOf file)
-  pub smallest-is : Filled (pos 0) (smallestDistance (monthOf file) (H (monthOf file) - 1)) (P (monthOf file)) smallest
-  pub largest-is : Filled (pos 0) (largestDistance (monthOf file) (H (monthOf file) - 1)) (P (monthOf file)) largest
+  pub smallest-is : Filled (pos 0) (smallestDistance (monthOf file) (H (monthOf file) - 1)) (P (monthOf file)) (x .smallest)
+  pub largest-is : Filled (pos 0) (largestDistance (monthOf file) (H (monthOf file) - 1)) (P (monthOf file)) (x .largest)
 
 -- what is printed of one party is its smallest and its largest distance
 pub record PartyAsked (file : List ℕ) (s : Sections) (w i : ℕ) (least most : ℤ) : Type 0 where

@@ -1,7 +1,7 @@
 -- What an accepted file's sections say of the month that the file is read as: for the crates above, which know the file and its sections alone.
 use mathlib.Core.Bool.{true, _&&_}
 use mathlib.Core.List.{List, []}
-use mathlib.Core.Path.{_≡_, refl, sym, _∙_, ap}
+use mathlib.Core.Path.{_≡_, refl, sym, _∙_, ap, ap₂}
 use Prim.Native.Nat.{ℕ, _<_, _%_}
 use native.Mathlib.Omega.{arith}
 use borrow.Author.Tests.{eqb-true}
@@ -17,9 +17,10 @@ use Rattle.month_file.specs.Walk.{readAnswer, sectionsOf}
 use Rattle.month_file.proofs.Readers.{its-month}
 use Rattle.rules.specs.Gln.{allDigits, weightedSum, validGln}
 use Rattle.rules.specs.Limits.{glnDigits}
-use Rattle.rules.specs.Month.{monthRead, monthOf, flowsAt, partyAt, priceAt, readingAt, shareOf}
+use Rattle.rules.specs.Month.{monthRead, monthOf, estimatedHours, flowsAt, partyAt, priceAt, readingAt, shareOf}
 use Rattle.rules.specs.MonthFile.{MonthFile, H, P, readMonth}
 use Rattle.rules.specs.Refusals.{Answer, given}
+use Rattle.rules.specs.Statement.{headingText, headingLine}
 use Rattle.rules.proofs.Whole.{Whole, what-is-read-is-whole, every-at, PartyRight, both-pass}
 
 pub month-of : (file : List ℕ) {m : MonthFile} → readMonth file ≡ given m → monthOf file ≡ m
@@ -65,6 +66,12 @@ module _ (file : List ℕ) (s : Sections) (ok : Accepted file s) where
   pub readings-are : s .readings ≡ length (monthOf file .readings)
   unfolding sectionsOf
   readings-are = ap (λ (x : Sections). x .readings) sections-are
+
+  -- the heading line, once its estimated hours are counted
+  pub heading-text : {estimated : ℕ} → estimated ≡ estimatedHours (monthOf file) → headingText (s .heading .area) (s .heading .year) (s .heading .month) (s .heading .hours) (s .heading .parties) estimated ≡ headingLine (monthOf file)
+  unfolding headingLine H P sectionsOf
+  heading-text counted =
+      ap₂ (λ (x : Sections) (k : ℕ). headingText (x .heading .area) (x .heading .year) (x .heading .month) (x .heading .hours) (x .heading .parties) k) sections-are counted
 
   -- what the readers of its fields give
   pub fixed-read : {t : ℕ} {f : CFlows.Flows} → FixedIs file t f → flowsOf f ≡ flowsAt (monthOf file .fixed) t
