@@ -6,6 +6,7 @@ use native.Mathlib.Omega.{arith}
 use lib.IntN.{ℤ, pos, _-ℤ_}
 use lib.ListN.{length, getD}
 use Rattle.hours_text.specs.Lines.{Known, Inside}
+use Rattle.month.proofs.Sizes.{few-hours}
 use Rattle.month_file.specs.Fields.{FixedAsked}
 use Rattle.month_file.specs.declared.Sections.{Sections}
 use Rattle.month_file.proofs.AcceptedFile.{month-whole, hours-are}
@@ -17,7 +18,6 @@ use Rattle.rules.specs.Reconciliation.{gridLoss}
 use Rattle.rules.specs.Words.{figures}
 use Rattle.rules.proofs.Loops.{figures-length, figures-at}
 use Rattle.rules.proofs.Month.{periodised-in-range}
-use Rattle.rules.proofs.Whole.{heading-facts}
 
 -- lists that are known to be the month's figures
 listed : {A : Type 0} {l : List A} {n : ℕ} (f : ℕ → A) → l ≡ figures n f → length l ≡ n
@@ -30,9 +30,8 @@ module _ {file : List ℕ} {s : Sections} {fixed applied curveNumbers : List ℕ
   abbrev m : MonthFile
   m = monthOf file
 
-  pub few-hours : H m ≤ 745
-  unfolding H
-  few-hours = heading-facts (m .heading) (month-whole file s (known .read) .head) .hours .1
+  pub few : H m ≤ 745
+  few = omega (arith, few-hours file s (known .read), hours-are file s (known .read))
 
   fixed-at : {t : ℕ} → t < H m → getD fixed t 0 ≡ fixedWh m t
   fixed-at b = there (fixedWh m) (known .fixed-is) 0 b
@@ -54,7 +53,7 @@ module _ {file : List ℕ} {s : Sections} {fixed applied curveNumbers : List ℕ
     this = omega (arith, hour .inside)
 
     pub short : t < 745
-    short = omega (arith, this, few-hours)
+    short = omega (arith, this, few)
 
     pub in-fixed : t < length fixed
     in-fixed = omega (arith, this, listed (fixedWh m) (known .fixed-is))

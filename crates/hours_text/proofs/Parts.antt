@@ -7,9 +7,10 @@ use native.Mathlib.Nat.{zero-add, eq-zero-or-pos, min-eq-left, min-eq-right, min
 use native.Mathlib.Omega.{arith}
 use lib.ListN.{length}
 use Rattle.hours_text.specs.Lines.{firstHours, firstRoom, restRoom, lineFrom, firstPart, restPart, partiesPart, Inside, FirstAsked}
+use Rattle.month.proofs.Sizes.{few-hours}
 use Rattle.month_file.specs.Fields.{Accepted}
 use Rattle.month_file.specs.declared.Sections.{Sections}
-use Rattle.month_file.proofs.AcceptedFile.{month-whole, hours-are, heading-text}
+use Rattle.month_file.proofs.AcceptedFile.{hours-are, heading-text}
 use Rattle.report_lines.specs.Rooms.{hourRoom}
 use Rattle.rules.specs.HoursReport.{hourLine, distancesLine, reportLines}
 use Rattle.rules.specs.Month.{monthOf, estimatedHours}
@@ -18,7 +19,6 @@ use Rattle.rules.specs.Statement.{headingText, headingLine, joined}
 use Rattle.rules.specs.Words.{figures}
 use Rattle.rules.proofs.Lines.{lines-in-two}
 use Rattle.rules.proofs.Loops.{figures-cong}
-use Rattle.rules.proofs.Whole.{heading-facts}
 use Rattle.text.specs.Text.{Put, LinePut, headingRoom}
 use Rattle.text.proofs.Puts.{put-then, put-as, put-length}
 
@@ -62,10 +62,6 @@ module _ (file : List ℕ) (s : Sections) (ok : Accepted file s) where
   abbrev m : MonthFile
   m = monthOf file
 
-  few-hours : H m ≤ 745
-  unfolding H
-  few-hours = heading-facts (m .heading) (month-whole file s ok .head) .hours .1
-
   -- THE FIRST BUFFER
   module _ {estimated hours : ℕ} (asked : FirstAsked file estimated hours) where
     pub first-inside : Inside file 0 hours
@@ -106,7 +102,7 @@ module _ (file : List ℕ) (s : Sections) (ok : Accepted file s) where
     few-others : s .heading .hours - hours ≤ 372
     few-others =
         ⊎-elim (λ (short : (H m ≤ firstHours) × (min (H m) firstHours ≡ H m)). omega (arith, short .1, first-is, hours-are file s ok))
-        (λ (long : (firstHours ≤ H m) × (min (H m) firstHours ≡ firstHours)). omega (arith, long .1, first-is, hours-are file s ok, few-hours))
+        (λ (long : (firstHours ≤ H m) × (min (H m) firstHours ≡ firstHours)). omega (arith, long .1, first-is, hours-are file s ok, few-hours file s ok))
         (in-two (H m))
 
     pub room-for-rest : {lent : ℕ} → restRoom ≤ lent → 0 + (s .heading .hours - hours) * hourRoom ≤ lent

@@ -8,15 +8,15 @@ use lib.IntN.{ℤ, pos}
 use lib.ListN.{length, getD}
 use Rattle.distances.specs.declared.Distances.{Distances}
 use Rattle.hours_text.specs.Lines as L
+use Rattle.month.proofs.Sizes.{few-parties}
 use Rattle.month_file.specs.Fields.{PartyAsked, GlnIs}
 use Rattle.month_file.specs.declared.Sections.{Sections}
-use Rattle.month_file.proofs.AcceptedFile.{month-whole, parties-are, gln-read, gln-length}
+use Rattle.month_file.proofs.AcceptedFile.{parties-are, gln-read, gln-length}
 use Rattle.rules.specs.HoursReport.{distancesText, distancesLine, smallestDistance, largestDistance}
 use Rattle.rules.specs.Month.{monthOf, partyAt}
 use Rattle.rules.specs.MonthFile.{MonthFile, P}
 use Rattle.rules.specs.Statement.{joined}
 use Rattle.rules.specs.Words.{figures}
-use Rattle.rules.proofs.Whole.{heading-facts}
 use Rattle.text.specs.Text.{LinePut, longestName}
 
 -- A PARTY'S LINE
@@ -39,8 +39,7 @@ module _ {file : List ℕ} {s : Sections} {w : ℕ} {x : Distances} (known : L.D
   n-is = parties-are file s (known .read)
 
   pub few : s .heading .parties ≤ 64
-  unfolding P
-  few = omega (arith, n-is, heading-facts (monthOf file .heading) (month-whole file s (known .read) .head) .parties .1)
+  few = few-parties file s (known .read)
 
   pub party-asked : {i : ℕ} → i < s .heading .parties → {a b : ℤ} → a ≡ getD (x .smallest) i (pos 0) → b ≡ getD (x .largest) i (pos 0) → L.PartyAsked file s w i a b
   party-asked {i} b of-a of-b =

@@ -37,7 +37,7 @@ mul-hour-line : tie.Need-mul-hour-line
 mul-hour-line c = record { fits = omega (arith, short (c .before .before .before .before .before .before .before .before .before .before .before .before .pre .0) (c .before .before .before .before .before .before .before .before .before .before .before .before .pre .1 .0)) }
 
 shared-slice-read-hour-line : tie.Need-shared-slice-read-hour-line
-shared-slice-read-hour-line c = in-fixed (c .before .before .before .before .before .before .before .before .before .before .before .before .before .pre .0) (c .before .before .before .before .before .before .before .before .before .before .before .before .before .pre .1 .0)
+shared-slice-read-hour-line c = omega (arith, in-fixed (c .before .before .before .before .before .before .before .before .before .before .before .before .before .pre .0) (c .before .before .before .before .before .before .before .before .before .before .before .before .before .pre .1 .0), in-applied (c .before .before .before .before .before .before .before .before .before .before .before .before .before .pre .0) (c .before .before .before .before .before .before .before .before .before .before .before .before .before .pre .1 .0))
 
 mul-hour-line-2 : tie.Need-mul-hour-line-2
 mul-hour-line-2 c = record { fits = omega (arith, short (c .before .before .before .before .before .before .before .before .before .before .before .before .before .pre .0) (c .before .before .before .before .before .before .before .before .before .before .before .before .before .pre .1 .0)) }

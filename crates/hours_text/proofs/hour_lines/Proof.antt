@@ -2,7 +2,7 @@
 use Prim.Native.Nat.{_-_}
 use native.Mathlib.Nat.{le-refl}
 use native.Mathlib.Omega.{arith}
-use Rattle.hours_text.proofs.HourLines.{few-hours}
+use Rattle.hours_text.proofs.HourLines.{few}
 use Rattle.hours_text.specs.Lines.{lineFrom}
 use Rattle.report_lines.specs.Rooms.{hourRoom}
 use Rattle.rules.specs.Month.{monthOf}
@@ -22,7 +22,7 @@ loop-holds : tie.Need-loop-holds Inv-loop μ-loop
 loop-holds c = go-start _ _ _ _ _
 
 add-hour-line-at : tie.Need-add-hour-line-at Inv-loop μ-loop
-add-hour-line-at c = record { fits = omega (arith, few-hours (c .before .before .before .before .before .before .before .before .pre .0), c .before .before .before .before .before .before .before .before .pre .1 .0 .inside) }
+add-hour-line-at c = record { fits = omega (arith, few (c .before .before .before .before .before .before .before .before .pre .0), c .before .before .before .before .before .before .before .before .pre .1 .0 .inside) }
 
 hour-line-at-requires : tie.Need-hour-line-at-requires Inv-loop μ-loop
 hour-line-at-requires c κs = (c .before .before .before .before .before .before .before .before .before .pre .0, (record { inside = omega (arith, c .before .before .before .before .before .before .before .before .before .pre .1 .0 .inside) }, go-room (c .before .before .loop .inv) (omega arith) _ (le-refl _) (c .before .before .before .before .before .before .before .before .before .pre .1 .1)))
