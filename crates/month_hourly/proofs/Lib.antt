@@ -1,0 +1,2 @@
+pub mod OneHour
+pub mod Windows
