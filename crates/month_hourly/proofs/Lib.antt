@@ -1,2 +1,3 @@
 pub mod OneHour
 pub mod Windows
+pub mod Making
