@@ -1,6 +1,7 @@
 //! The command `second`.
 //!
 //! - `second statement < FILE` prints what the statement program prints.
+//! - `second hours < FILE` prints what the hours program prints.
 //! - `second make --seed S --count N --out DIR` writes month files and their expected output.
 //! - `second check --program PATH --seed S --count N` compares another statement program with this one; a long campaign is
 //!   run with `--threads T`, and with `--feed whole` (or `pieces`) instead of both.
@@ -15,9 +16,11 @@ use std::time::Instant;
 use second::bench::{bench_file, Fault, Readings, Size};
 use second::check::{Check, Feed};
 use second::limits::{FILE_BYTES_MAX, HOURS, PARTIES};
-use second::{examples, make, statement};
+use second::month::settle;
+use second::report::Report;
+use second::{examples, make};
 
-const USAGE: &str = "usage: second statement < FILE
+const USAGE: &str = "usage: second statement|hours < FILE
        second make --seed S --count N --out DIR
        second check --program PATH --seed S --count N [--feed whole|pieces|both] [--threads T]
        second example s1|full|silent
@@ -27,7 +30,8 @@ fn main() -> ExitCode {
     let arguments: Vec<String> = std::env::args().skip(1).collect();
     let words: Vec<&str> = arguments.iter().map(String::as_str).collect();
     let done = match words[..] {
-        ["statement"] => print_statement(),
+        ["statement"] => print_report(Report::Statement),
+        ["hours"] => print_report(Report::Hours),
         ["make", ref options @ ..] => make_files(options),
         ["check", ref options @ ..] => check_program(options),
         ["example", name] => print_example(name),
@@ -43,15 +47,15 @@ fn main() -> ExitCode {
     }
 }
 
-/// Prints the statement of the file on standard input. One byte more than a file may have is enough to know that it is
-/// too long.
-fn print_statement() -> Result<(), String> {
+/// Prints the report of the file on standard input. One byte more than a file may have is enough to know that it is too
+/// long.
+fn print_report(report: Report) -> Result<(), String> {
     let mut file = Vec::new();
     io::stdin()
         .take(FILE_BYTES_MAX as u64 + 1)
         .read_to_end(&mut file)
         .map_err(|error| format!("standard input cannot be read: {error}"))?;
-    print_bytes(statement::statement(&file).as_bytes())
+    print_bytes(report.printed(&settle(&file)).as_bytes())
 }
 
 fn print_example(name: &str) -> Result<(), String> {
@@ -80,6 +84,7 @@ fn check_program(options: &[&str]) -> Result<(), String> {
     let feed = option(options, "--feed").unwrap_or("both");
     let check = Check {
         program: Path::new(option(options, "--program")?),
+        report: Report::Statement,
         seed: number(options, "--seed")?,
         count: number(options, "--count")?,
         feeds: Feed::named(feed).ok_or(USAGE)?,

@@ -15,6 +15,7 @@ use second::limits::FILE_BYTES_MAX;
 use second::make::{file, files, month, write_files, Aim, MadeFile, Tally, SHAPES};
 use second::month::{settle, Month};
 use second::random::Random;
+use second::report::Report;
 use second::statement::statement;
 
 /// What the maker meant and what the reader says, each from its own side.
@@ -245,6 +246,7 @@ fn check(
 ) -> Result<Tally, String> {
     let check = Check {
         program,
+        report: Report::Statement,
         seed,
         count,
         feeds,
