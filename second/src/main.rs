@@ -3,8 +3,9 @@
 //! - `second statement < FILE` prints what the statement program prints.
 //! - `second hours < FILE` prints what the hours program prints.
 //! - `second make --seed S --count N --out DIR` writes month files and their expected output.
-//! - `second check --program PATH --seed S --count N` compares another statement program with this one; a long campaign is
-//!   run with `--threads T`, and with `--feed whole` (or `pieces`) instead of both.
+//! - `second check --program PATH --seed S --count N` compares another statement program with this one, or with `--report
+//!   hours` another hours program; a long campaign is run with `--threads T`, and with `--feed whole` (or `pieces`) instead
+//!   of both.
 //! - `second example NAME` writes the month file of an example (s1, full, silent).
 //! - `second bench-file ..` writes a month file of a chosen size (bench/README.md).
 
@@ -22,7 +23,7 @@ use second::{examples, make};
 
 const USAGE: &str = "usage: second statement|hours < FILE
        second make --seed S --count N --out DIR
-       second check --program PATH --seed S --count N [--feed whole|pieces|both] [--threads T]
+       second check --program PATH --seed S --count N [--report statement|hours] [--feed whole|pieces|both] [--threads T]
        second example s1|full|silent
        second bench-file --hours H --parties P --series fixed|refixed --readings N|most --span HOURS [--fault byte|count]";
 
@@ -81,10 +82,11 @@ fn make_files(options: &[&str]) -> Result<(), String> {
 }
 
 fn check_program(options: &[&str]) -> Result<(), String> {
+    let report = option(options, "--report").unwrap_or("statement");
     let feed = option(options, "--feed").unwrap_or("both");
     let check = Check {
         program: Path::new(option(options, "--program")?),
-        report: Report::Statement,
+        report: Report::named(report).ok_or(USAGE)?,
         seed: number(options, "--seed")?,
         count: number(options, "--count")?,
         feeds: Feed::named(feed).ok_or(USAGE)?,
@@ -99,7 +101,8 @@ fn check_program(options: &[&str]) -> Result<(), String> {
     tally.complete()?;
     let seconds = start.elapsed().as_secs();
     let (seed, count) = (check.seed, check.count);
-    let summary = format!("seed {seed}: {count} files, none differs ({feed}, {seconds} s)\n");
+    let summary =
+        format!("seed {seed}: {count} files, none differs ({report}, {feed}, {seconds} s)\n");
     print_bytes(summary.as_bytes())
 }
 

@@ -13,6 +13,15 @@ pub enum Report {
 }
 
 impl Report {
+    /// The report that a word names; None for another word.
+    pub fn named(word: &str) -> Option<Report> {
+        match word {
+            "statement" => Some(Report::Statement),
+            "hours" => Some(Report::Hours),
+            _ => None,
+        }
+    }
+
     /// What the program prints for a month that was settled or refused: its report, or the one line of the refusal, which
     /// is the same in all.
     pub fn printed(self, judged: &Result<Month, Refusal>) -> String {
