@@ -6,7 +6,7 @@
 //! - `second check --program PATH --seed S --count N` compares another statement program with this one, or with `--report
 //!   hours` another hours program; a long campaign is run with `--threads T`, and with `--feed whole` (or `pieces`) instead
 //!   of both.
-//! - `second example NAME` writes the month file of an example (s1, full, silent).
+//! - `second example NAME` writes the month file of an example (s1, full, silent, d3).
 //! - `second bench-file ..` writes a month file of a chosen size (bench/README.md).
 
 use std::io::{self, Read, Write};
@@ -24,7 +24,7 @@ use second::{examples, make};
 const USAGE: &str = "usage: second statement|hours < FILE
        second make --seed S --count N --out DIR
        second check --program PATH --seed S --count N [--report statement|hours] [--feed whole|pieces|both] [--threads T]
-       second example s1|full|silent
+       second example s1|full|silent|d3
        second bench-file --hours H --parties P --series fixed|refixed --readings N|most --span HOURS [--fault byte|count]";
 
 fn main() -> ExitCode {

@@ -2,7 +2,7 @@
 //! line of random months.
 
 use second::draft::{measured_hour, prices_of, Draft};
-use second::examples::{s1, silent};
+use second::examples::{d3, s1, silent};
 use second::hours::{hours, text};
 use second::make::{files, Aim};
 use second::month::settle;
@@ -66,6 +66,29 @@ fn d3_distances_by_hand() {
     //   after hour 1: 5*14-6*11 =  4, the same, 1*14-2*11 = -8
     let text = hours(&month_of(&[6, 6, 2], &[10, 1]).bytes());
     assert_eq!(distances(&text), ["-4/14 4/14", "-4/14 4/14", "-8/14 8/14"]);
+}
+
+/// The example, by hand. Residuals 16+3-6-3 = 10 and -2+8-4-1 = 1; curve 10,000,000/14 and 1,000,000/14 rounded down.
+/// Party 0's reading: 6 x 714,285 / 785,713 = 5.45, so 5 and 1. Differences (1,1,-2) at 2 øre and (0,-3,3) at -1.5 øre per
+/// Wh: 2, 6.5 and -8.5 øre.
+#[test]
+fn the_example_d3_by_hand() {
+    let file = d3().bytes();
+    let expected_hours = "area 003 2016-06 hours 2 parties 3 estimated 1
+0 measured measured 10 10 714285 10 5 5
+1 estimated estimated 1 1 71428 1 3 -2
+0000000000017 -4/14 4/14
+0000000000024 -4/14 4/14
+0000000000031 -8/14 8/14
+";
+    assert_eq!(hours(&file), expected_hours);
+    let expected_statement = "area 003 2016-06 hours 2 parties 3 estimated 1
+0000000000017 5 6 0 1 2
+0000000000024 5 0 3 -2 7
+0000000000031 1 2 0 1 -9
+total 11 8 3 0 0
+";
+    assert_eq!(statement(&file), expected_statement);
 }
 
 /// Before hour 0 every distance is 0; that is not one of the month's.
