@@ -4,7 +4,4 @@ pub mod Complement
 pub mod EveryEntry
 pub mod Decoding
 pub mod ReadOne
-pub mod Encoding
-pub mod WriteOne
-pub mod RoundTrip
 pub mod Unique
