@@ -23,22 +23,11 @@ use Rattle.month_file.specs.declared.Step.{Step}
 use Rattle.month_file.specs.declared.Step.the-variants as S
 use Rattle.month_file.specs.Walk.{dueIn, risesIn, withIn, Counted, Few, Stands, Stepped, Steppable, StepMoves, StepMeans, refusedBy, judgedIn}
 use Rattle.month_file.proofs.Stepping as G
+use Rattle.record.proofs.BodyShort.{body-short}
 use Rattle.rules.specs.Record as R
 use Rattle.rules.specs.Refusals.{accepted}
 use Rattle.rules.specs.Words.{at}
 use Rattle.rules.proofs.Places.{lengthOf, length-of-record}
-
-body-short : (kind : ℕ) → R.bodyLength kind ≤ 35
-unfolding R.bodyLength at
-body-short zero = omega arith
-body-short (suc zero) = omega arith
-body-short (suc (suc zero)) = omega arith
-body-short (suc (suc (suc zero))) = omega arith
-body-short (suc (suc (suc (suc zero)))) = omega arith
-body-short (suc (suc (suc (suc (suc zero))))) = omega arith
-body-short (suc (suc (suc (suc (suc (suc zero)))))) = omega arith
-body-short (suc (suc (suc (suc (suc (suc (suc zero))))))) = omega arith
-body-short (suc (suc (suc (suc (suc (suc (suc (suc k)))))))) = omega arith
 
 -- how far a record that is judged moves the reading
 module _ (w : Walk) (bytes : List ℕ) (size : ℕ) (body : size ≡ R.bodyLength (R.kindAt bytes)) (fits : size < length bytes) (c : Counted w) (known : R.known (R.kindAt bytes) ≡ true) where

@@ -73,7 +73,7 @@ pub fn body_length(kind: u8) -> usize
     ensures { λ n. ⌜ n ≡ bodyLength kind ⌝ }
 {
     let k = kind as usize;
-    table::BODY[k]
+    table::BODY[k] as usize
 }
 
 // The fields of a record that stands whole at the start of a part, kind by kind.

@@ -23,7 +23,7 @@ use Rattle.record.specs.declared.Record as C
 use Rattle.record.specs.declared.Record.the-variants.{Heading, Party, FixedHour, Reading, Price, RefixedHour, End}
 use Rattle.rules.specs.Record.{Record, bodyLength, fieldChecks, recordBytes, inRange, glnRight, writeVerdict, written}
 use Rattle.rules.specs.Refusals.{Verdict, accepted, refused, wrongLength, Answer, given, refusal, unless, andThen, first, answer, afterwards}
-use Rattle.rules.specs.Words.{at, withinℤ}
+use Rattle.rules.specs.Words.{withinℤ}
 use Rattle.rules.proofs.Refusals.{first-append}
 use Rattle.rules.proofs.RoundTrip as R
 use Rattle.record.proofs.Judging.{fault-is}
@@ -57,16 +57,6 @@ module _ {gln : List ℕ} {r : C.Record} {out : List ℕ} (w : Writable gln r ou
       let range : ltb hour 745 && withinℤ 5000000 p ≡ true = rw e at (R.sound (recordOf gln r) (w .sound) .range) in
       let small : mag p ≤ 5000000 = R.within-size 4999999 p (R.both-true (ltb hour 745) (withinℤ 5000000 p) range .1) in
       omega arith
-
-pub body-most : (r : C.Record) → bodyLength (kindOf r) ≤ 35
-unfolding bodyLength at
-body-most (Heading h) = omega arith
-body-most (Party share) = omega arith
-body-most (FixedHour hour f) = omega arith
-body-most (Reading r) = omega arith
-body-most (Price hour p) = omega arith
-body-most (RefixedHour hour f) = omega arith
-body-most (End count) = omega arith
 
 -- what is set at the start of a part that has room
 set-at-start : (bytes out : List ℕ) → length bytes ≤ length out → sets out 0 bytes ≡ bytes ++ drop (length bytes) out

@@ -1,9 +1,11 @@
 -- `record_write::put_record` meets its contract: a record without fault has the length that its kind says. Assumes nothing.
+use Rattle.record.proofs.BodyShort.{body-short}
+use Rattle.record_write.specs.Writing.{kindOf}
 use Rattle.rules.specs.Record.{bodyLength}
 use Prim.Native.Nat.{ℕ, _+_}
 use mathlib.Core.Path.{_∙_, ap}
 use native.Mathlib.Omega.{arith}
-use Rattle.record_write.proofs.WriteOne.{size-is, body-most, too-short, has-room}
+use Rattle.record_write.proofs.WriteOne.{size-is, too-short, has-room}
 use borrow.Author.Needs.{needs}
 use Rattle.record_write.proofs.put_record.Statement.{statement}
 use Rattle.record_write.proofs.put_record.Tie as tie
@@ -15,7 +17,7 @@ body-length-requires : tie.Need-body-length-requires
 body-length-requires c κs = search needs
 
 add-n : tie.Need-add-n
-add-n c = omega (arith, c .body-length .ensures ∙ ap bodyLength (c .before .kind-of .ensures), body-most (c .before .before .before .before .args .r))
+add-n c = omega (arith, c .body-length .ensures ∙ ap bodyLength (c .before .kind-of .ensures), body-short (kindOf (c .before .before .before .before .args .r)))
 
 returns : tie.Need-returns
 returns c = too-short (c .before .before .before .before .before .args .gln .now) (c .before .before .before .before .before .args .r) (c .before .before .before .before .before .args .out .now) (c .before .before .before .before .before .pre) (omega (arith, c .before .body-length .ensures ∙ ap bodyLength (c .before .before .kind-of .ensures)))
