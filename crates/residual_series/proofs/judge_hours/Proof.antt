@@ -1,4 +1,4 @@
--- `residual::judge_hours` meets its contract: what is left of the hours says what the whole says. Assumes nothing.
+-- `residual_series::judge_hours` meets its contract: what is left of the hours says what the whole says. Assumes nothing.
 use mathlib.Core.Path.{_≡_, sym, _∙_, ap}
 use Prim.Native.Nat.{_-_}
 use lib.ListN.{length}
@@ -7,11 +7,11 @@ use Rattle.answer.specs.Said.{said}
 use Rattle.rules.specs.Words.{at}
 use Rattle.rules.specs.Services.{hourCheck}
 use Rattle.rules.proofs.Loops.{Looking, look-start, look-pass, look-stop, look-end}
-use Rattle.residual.proofs.Hours.{within-limits, hour-said}
+use Rattle.residual_series.proofs.Hours.{within-limits, hour-said}
 use borrow.Author.Needs.{needs}
 use native.Mathlib.Omega.{arith}
-use Rattle.residual.proofs.judge_hours.Statement.{statement}
-use Rattle.residual.proofs.judge_hours.Tie as tie
+use Rattle.residual_series.proofs.judge_hours.Statement.{statement}
+use Rattle.residual_series.proofs.judge_hours.Tie as tie
 
 abbrev Inv-loop : tie.InvT-loop
 Inv-loop statuses nets productions hourlies flexes t₀ t = Looking (hourCheck statuses nets productions hourlies flexes) (length statuses) t

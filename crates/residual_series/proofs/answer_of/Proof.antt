@@ -1,8 +1,8 @@
--- `residual::answer_of` meets its contract: each case is its verdict. Assumes nothing.
+-- `residual_series::answer_of` meets its contract: each case is its verdict. Assumes nothing.
 use Rattle.rules.specs.Flows.{verdictOf}
 use borrow.Author.Needs.{needs}
-use Rattle.residual.proofs.answer_of.Statement.{statement}
-use Rattle.residual.proofs.answer_of.Tie as tie
+use Rattle.residual_series.proofs.answer_of.Statement.{statement}
+use Rattle.residual_series.proofs.answer_of.Tie as tie
 
 enum-told : tie.Need-enum-told
 enum-told c = search needs

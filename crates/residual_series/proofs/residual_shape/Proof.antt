@@ -1,10 +1,10 @@
--- `residual::residual_shape` meets its contract: its tests are the checks, in their order. Assumes nothing.
+-- `residual_series::residual_shape` meets its contract: its tests are the checks, in their order. Assumes nothing.
 use borrow.Author.Tests.{eq-eqb, ne-eqb}
 use Rattle.rules.specs.Words.{within}
 use Rattle.residual.proofs.Checks.{flag-off, flag-on, test-refuses, test-passes, none-left}
-use Rattle.residual.specs.Passes.{residualShape}
-use Rattle.residual.proofs.residual_shape.Statement.{statement}
-use Rattle.residual.proofs.residual_shape.Tie as tie
+use Rattle.residual_series.specs.Passes.{residualShape}
+use Rattle.residual_series.proofs.residual_shape.Statement.{statement}
+use Rattle.residual_series.proofs.residual_shape.Tie as tie
 
 returns : tie.Need-returns
 unfolding residualShape within

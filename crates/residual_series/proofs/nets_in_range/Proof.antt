@@ -1,4 +1,4 @@
--- `residual::nets_in_range` meets its contract: what is left of the list says what the whole says. Assumes nothing.
+-- `residual_series::nets_in_range` meets its contract: what is left of the list says what the whole says. Assumes nothing.
 use mathlib.Core.Path.{_≡_, sym, _∙_, ap}
 use Prim.Native.Nat.{_-_}
 use native.Mathlib.Omega.{arith}
@@ -13,9 +13,9 @@ use Rattle.rules.specs.Refusals.{outOfRange}
 use Rattle.rules.specs.Services.{eachAtℤ, checkAtℤ, atℤ}
 use Rattle.rules.specs.Words.{withinℤ}
 use Rattle.rules.proofs.Loops.{Looking, look-start, look-pass, look-stop, look-end}
 use Rattle.residual.proofs.Places.{passes, stops}
-use Rattle.residual.proofs.nets_in_range.Statement.{statement}
-use Rattle.residual.proofs.nets_in_range.Tie as tie
+use Rattle.residual_series.proofs.nets_in_range.Statement.{statement}
+use Rattle.residual_series.proofs.nets_in_range.Tie as tie
 
 abbrev Inv-loop : tie.InvT-loop
 Inv-loop nets i₀ i = Looking (checkAtℤ nets (withinℤ greatestFlow) outOfRange) (length nets) i

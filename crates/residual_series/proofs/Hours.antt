@@ -20,10 +20,10 @@ use Rattle.rules.specs.Services.{atℤ, checkAt, eachAt, checkAtℤ, eachAtℤ,
 use Rattle.rules.specs.Words.{at, atMost, withinℤ}
 use Rattle.rules.proofs.Refusals.{refused-not-accepted, accepted-exactly, in-turn-exactly, unless-exactly}
 use Rattle.rules.proofs.Whole.{within-size, both-pass}
 use Rattle.residual.specs.declared.Hour.{Hour}
-use Rattle.residual.specs.Hour.{judgement, flowsHere, WithinLimitsAt}
+use Rattle.residual.specs.Hour.{judgement, flowsHere}
 use Rattle.residual.proofs.Checks.{grouped, past}
-use Rattle.residual.specs.Passes.{residualShape, rangesOf, SameLengths, Ranged, Judged}
+use Rattle.residual_series.specs.Passes.{WithinLimitsAt, residualShape, rangesOf, SameLengths, Ranged, Judged}
 
 -- every value of a list that was accepted
 pub each-within : (l : List ℕ) (most : ℕ) (r : Refusal) → eachAt l (atMost most) r ≡ accepted → (i : ℕ) → i < length l → at l i ≤ most

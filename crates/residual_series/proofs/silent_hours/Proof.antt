@@ -1,4 +1,4 @@
--- `residual::silent_hours` meets its contract: what is left of the lists says what the whole says. Assumes nothing.
+-- `residual_series::silent_hours` meets its contract: what is left of the lists says what the whole says. Assumes nothing.
 use mathlib.Core.Path.{_≡_, sym}
 use Prim.Native.Nat.{_-_}
 use lib.IntN.{pos}
@@ -10,12 +10,12 @@ use Rattle.rules.specs.Flows.{silentIsZero}
 use Rattle.rules.specs.Services.{silentCheck, flowsOf, atℤ}
 use Rattle.rules.specs.Words.{at}
 use Rattle.rules.proofs.Loops.{Looking, look-start, look-pass, look-stop, look-end}
 use Rattle.residual.proofs.Places.{passes, stops}
-use Rattle.residual.proofs.Hours.{silent-said}
+use Rattle.residual_series.proofs.Hours.{silent-said}
 use borrow.Author.Needs.{needs}
 use native.Mathlib.Omega.{arith}
-use Rattle.residual.proofs.silent_hours.Statement.{statement}
-use Rattle.residual.proofs.silent_hours.Tie as tie
+use Rattle.residual_series.proofs.silent_hours.Statement.{statement}
+use Rattle.residual_series.proofs.silent_hours.Tie as tie
 
 abbrev Inv-loop : tie.InvT-loop
 Inv-loop statuses nets productions hourlies flexes t₀ t = Looking (silentCheck statuses nets productions hourlies flexes) (length statuses) t

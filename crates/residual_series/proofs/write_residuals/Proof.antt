@@ -1,4 +1,4 @@
--- `residual::write_residuals` meets its contract: the beginning of the lent series is the residuals so far. Assumes nothing.
+-- `residual_series::write_residuals` meets its contract: the beginning of the lent series is the residuals so far. Assumes nothing.
 use Prim.Native.Nat.{_-_}
 use mathlib.Core.Path.{_≡_, _∙_}
 use lib.ListN.{length}
@@ -7,14 +7,14 @@ use mir.Syntax.{w64}
 use mir.Val.{toZ, ofZ}
 use Rattle.rules.specs.Flows.{residual}
 use Rattle.rules.specs.Words.{at}
 use Rattle.residual.specs.Hour.{flowsHere}
 use Rattle.rules.specs.Services.{atℤ, residualFigures, residualAt}
 use Rattle.rules.proofs.Loops.{Filling, fill-start, fill-next, fill-end}
-use Rattle.residual.proofs.Hours.{within-limits, written-fits, written-is}
+use Rattle.residual_series.proofs.Hours.{within-limits, written-fits, written-is}
 use borrow.Author.Needs.{needs}
 use native.Mathlib.Omega.{arith}
-use Rattle.residual.proofs.write_residuals.Statement.{statement}
-use Rattle.residual.proofs.write_residuals.Tie as tie
+use Rattle.residual_series.proofs.write_residuals.Statement.{statement}
+use Rattle.residual_series.proofs.write_residuals.Tie as tie
 
 abbrev Inv-loop : tie.InvT-loop
 Inv-loop statuses nets productions hourlies flexes out₀ t₀ out t = Filling (residualAt statuses nets productions hourlies flexes) (length statuses) out t

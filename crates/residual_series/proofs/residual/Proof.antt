@@ -1,11 +1,11 @@
--- `residual::residual` meets its contract: its passes are the checks, in their order, and it writes only after the last of them. Assumes nothing.
+-- `residual_series::residual` meets its contract: its passes are the checks, in their order, and it writes only after the last of them. Assumes nothing.
 use mathlib.Core.Path.{_∙_}
 use Rattle.rules.specs.Refusals.{afterwards}
 use Rattle.residual.proofs.Checks.{pass-refuses, pass-accepts, none-left, accepted-by, unwritten}
-use Rattle.residual.proofs.Hours.{in-parts, shape-lent, shape-lengths}
+use Rattle.residual_series.proofs.Hours.{in-parts, shape-lent, shape-lengths}
 use borrow.Author.Needs.{needs}
-use Rattle.residual.proofs.residual.Statement.{statement}
-use Rattle.residual.proofs.residual.Tie as tie
+use Rattle.residual_series.proofs.residual.Statement.{statement}
+use Rattle.residual_series.proofs.residual.Tie as tie
 
 residual-shape-requires : tie.Need-residual-shape-requires
 residual-shape-requires c κs = search needs

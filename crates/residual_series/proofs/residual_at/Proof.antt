@@ -1,4 +1,4 @@
--- `residual::residual_at` meets its contract: the four flows of the hour are read back as they stand. Assumes nothing.
+-- `residual_series::residual_at` meets its contract: the four flows of the hour are read back as they stand. Assumes nothing.
 use mathlib.Core.Path.{_≡_, _∙_}
 use lib.IntN.{pos}
 use lib.ListN.{getD}
@@ -8,8 +8,8 @@ use mir.Val.{SFits, toZ, ofZ}
 use Rattle.rules.specs.Services.{atℤ}
 use Rattle.rules.specs.Words.{at}
 use borrow.Author.Needs.{needs}
-use Rattle.residual.proofs.residual_at.Statement.{statement}
-use Rattle.residual.proofs.residual_at.Tie as tie
+use Rattle.residual_series.proofs.residual_at.Statement.{statement}
+use Rattle.residual_series.proofs.residual_at.Tie as tie
 
 mul-residual-of : tie.Need-mul-residual-of
 mul-residual-of c = search needs

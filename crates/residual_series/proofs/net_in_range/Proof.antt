@@ -1,8 +1,8 @@
--- `residual::net_in_range` meets its contract: the two tests are the rule's. Assumes nothing.
+-- `residual_series::net_in_range` meets its contract: the two tests are the rule's. Assumes nothing.
 use mir.Facts.{toZ-ofZ}
 use Rattle.rules.specs.Words.{withinℤ}
-use Rattle.residual.proofs.net_in_range.Statement.{statement}
-use Rattle.residual.proofs.net_in_range.Tie as tie
+use Rattle.residual_series.proofs.net_in_range.Statement.{statement}
+use Rattle.residual_series.proofs.net_in_range.Tie as tie
 
 returns : tie.Need-returns
 unfolding withinℤ

@@ -1,4 +1,4 @@
--- `residual::statuses_in_range` meets its contract: what is left of the list says what the whole says. Assumes nothing.
+-- `residual_series::statuses_in_range` meets its contract: what is left of the list says what the whole says. Assumes nothing.
 use mathlib.Core.Path.{sym}
 use Prim.Native.Nat.{_-_}
 use native.Mathlib.Omega.{arith}
@@ -10,8 +10,8 @@ use Rattle.rules.specs.Refusals.{outOfRange}
 use Rattle.rules.specs.Services.{eachAt, checkAt}
 use Rattle.rules.specs.Words.{atMost}
 use Rattle.rules.proofs.Loops.{Looking, look-start, look-pass, look-stop, look-end}
-use Rattle.residual.proofs.statuses_in_range.Statement.{statement}
-use Rattle.residual.proofs.statuses_in_range.Tie as tie
+use Rattle.residual_series.proofs.statuses_in_range.Statement.{statement}
+use Rattle.residual_series.proofs.statuses_in_range.Tie as tie
 
 abbrev Inv-loop : tie.InvT-loop
 Inv-loop statuses i₀ i = Looking (checkAt statuses (atMost estimated) outOfRange) (length statuses) i

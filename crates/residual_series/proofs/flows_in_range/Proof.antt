@@ -1,10 +1,10 @@
--- `residual::flows_in_range` meets its contract: five passes, one after the other. Assumes nothing.
+-- `residual_series::flows_in_range` meets its contract: five passes, one after the other. Assumes nothing.
 use mathlib.Core.Path.{_∙_}
 use Rattle.residual.proofs.Checks.{pass-refuses, pass-accepts, last-check}
-use Rattle.residual.specs.Passes.{rangesOf}
+use Rattle.residual_series.specs.Passes.{rangesOf}
 use borrow.Author.Needs.{needs}
-use Rattle.residual.proofs.flows_in_range.Statement.{statement}
-use Rattle.residual.proofs.flows_in_range.Tie as tie
+use Rattle.residual_series.proofs.flows_in_range.Statement.{statement}
+use Rattle.residual_series.proofs.flows_in_range.Tie as tie
 
 statuses-in-range-requires : tie.Need-statuses-in-range-requires
 statuses-in-range-requires c κs = search needs
