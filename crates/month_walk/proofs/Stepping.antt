@@ -1,13 +1,12 @@
 -- One record: why a step's numbers say what the rules say of the month read so far. The numbers are the lengths of the month's lists, so a record is due by
 -- them exactly where it is due; the rest of the checks are the record's own; and the numbers with one record more stand for the month with one record more.
-use mathlib.Core.Bool.{Bool, true, false, cond, _&&_, _||_}
+use mathlib.Core.Bool.{Bool, true, false, cond, _||_}
 use mathlib.Core.List.{List, [], _∷_, _++_}
 use mathlib.Core.Path.{_≡_, refl, sym, _∙_, ap, ap₂, subst}
-use Prim.Native.Nat.{ℕ, zero, suc, _+_, _≤_, _<_}
-use native.Mathlib.Numerals.{add-one}
+use Prim.Native.Nat.{ℕ, _+_, _≤_}
 use native.Mathlib.Omega.{arith}
-use borrow.Author.Tests.{le-leb, lt-leb, leb-true, ne-eqb}
-use lib.Dec.{eqb, leb, ltb}
+use borrow.Author.Tests.{le-leb, lt-leb, ne-eqb}
+use lib.Dec.{eqb, ltb}
 use lib.ListN.{length, length-append}
 use Rattle.answer.specs.Said.{named, said}
 use Rattle.answer.specs.declared.Answer.{Answer}
@@ -15,16 +14,14 @@ use Rattle.answer.specs.declared.Answer.the-variants as AV
 use Rattle.answer.specs.declared.Refusal.{Refusal}
 use Rattle.answer.specs.declared.Refusal.the-variants.{WrongCount}
 use Rattle.gln.specs.Gln.{glnAnswer}
-use Rattle.gln.specs.declared.Gln.{Gln}
 use Rattle.gln.specs.declared.Gln.the-variants.{Valid, Invalid}
-use Rattle.record.specs.Record.{headingOf, recordOf, glnBytes, glnIn, glnSound, faultOf}
+use Rattle.record.specs.Record.{recordOf, glnBytes, glnIn, glnSound, faultOf}
 use Rattle.record.specs.declared.Record.{Record}
 use Rattle.record.specs.declared.Record.the-variants.{Heading, Party, FixedHour, Reading, Price, RefixedHour, End}
 use Rattle.record.proofs.Judging.{fault-is}
-use Rattle.month_file.specs.declared.Walk.{Walk}
-use Rattle.month_file.specs.declared.Step.{Step}
-use Rattle.month_file.specs.declared.Step.the-variants as S
-use Rattle.month_file.specs.Walk.{dueIn, risesIn, numberIn, withIn, Counted, Stands, StepMeans, judgedIn}
+use Rattle.month_walk.specs.declared.Walk.{Walk}
+use Rattle.month_walk.specs.declared.Step.the-variants as S
+use Rattle.month_walk.specs.Walk.{dueIn, risesIn, numberIn, withIn, Stands, StepMeans, judgedIn}
 use Rattle.rules.specs.Gln.{validGln, digitsOnto, rises}
 use Rattle.rules.specs.MonthFile.{MonthFile, H, P, due, risesAfter, glnRises, countRight, recordChecks, isEnd}
 use Rattle.rules.specs.MonthFile as F

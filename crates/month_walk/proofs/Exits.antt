@@ -1,12 +1,11 @@
 -- The exits of a step, each with its answer: what it means for the month read so far, and how far it moves.
 use mathlib.Core.Bool.{Bool, true, false, cond, not}
-use mathlib.Core.List.{List, [], _∷_}
+use mathlib.Core.List.{List}
 use mathlib.Core.Path.{_≡_, refl, sym, _∙_, ap, subst}
-use Prim.Native.Nat.{ℕ, zero, suc, _+_, _≤_, _<_, zero-le}
-use native.Mathlib.Nat.{le-trans}
+use Prim.Native.Nat.{ℕ, _+_, _≤_, _<_}
 use native.Mathlib.Omega.{arith}
 use borrow.Author.Tests.{not-true, not-false, le-leb}
-use lib.Dec.{eqb, leb}
+use lib.Dec.{eqb}
 use lib.ListN.{length, getD, drop}
 use Rattle.answer.specs.Said.{said}
 use Rattle.answer.specs.declared.Answer.{Answer}
@@ -18,11 +17,11 @@ use Rattle.gln.specs.declared.Gln.{Gln}
 use Rattle.record.specs.Record.{recordOf, glnBytes, glnIn, faultOf, Whole}
 use Rattle.record.specs.declared.Record.{Record}
 use Rattle.record.specs.declared.Record.the-variants.{Heading, Party, FixedHour, Reading, Price, RefixedHour, End}
-use Rattle.month_file.specs.declared.Walk.{Walk}
-use Rattle.month_file.specs.declared.Step.{Step}
-use Rattle.month_file.specs.declared.Step.the-variants as S
-use Rattle.month_file.specs.Walk.{dueIn, risesIn, withIn, Counted, Few, Stands, Stepped, Steppable, StepMoves, StepMeans, refusedBy, judgedIn}
-use Rattle.month_file.proofs.Stepping as G
+use Rattle.month_walk.specs.declared.Walk.{Walk}
+use Rattle.month_walk.specs.declared.Step.{Step}
+use Rattle.month_walk.specs.declared.Step.the-variants as S
+use Rattle.month_walk.specs.Walk.{dueIn, risesIn, Counted, Few, Stepped, Steppable, StepMoves, refusedBy, judgedIn}
+use Rattle.month_walk.proofs.Stepping as G
 use Rattle.record.proofs.BodyShort.{body-short}
 use Rattle.rules.specs.Record as R
 use Rattle.rules.specs.Refusals.{accepted}
