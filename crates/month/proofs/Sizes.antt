@@ -1,16 +1,19 @@
 -- How much a month can have, of an accepted file's sections: the places that are lent are enough.
 use mathlib.Core.List.{List}
 use mathlib.Core.Logic.{_⊎_, ⊎-elim}
-use mathlib.Core.Path.{_≡_}
+use mathlib.Core.Path.{_≡_, _∙_, ap}
 use Prim.Native.Nat.{ℕ, _≤_}
 use native.Mathlib.Omega.{arith}
-use lib.ListN.{length}
+use lib.ListN.{length, replicate, length-replicate}
 use Rattle.month_file.specs.Fields.{Accepted}
 use Rattle.month_file.specs.declared.Sections.{Sections}
 use Rattle.month_file.proofs.AcceptedFile.{month-whole, hours-are, parties-are, refixed-are}
 use Rattle.rules.specs.Month.{monthOf}
 use Rattle.rules.specs.MonthFile.{H, P}
 use Rattle.rules.proofs.Whole.{heading-facts}
+
+pub places : (n : ℕ) {lent : List ℕ} → lent ≡ replicate n 0 → length lent ≡ n
+places n e = ap length e ∙ length-replicate n 0
 
 module _ (file : List ℕ) (s : Sections) (ok : Accepted file s) where
   pub few-parties : s .heading .parties ≤ 64

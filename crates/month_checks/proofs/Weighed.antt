@@ -31,7 +31,7 @@ module _ (file : List ℕ) (s : Sections) (ok : Accepted file s) {shares : List 
   abbrev m : MonthFile
   m = monthOf file
 
-  shares-many : length shares ≡ P m
+  pub shares-many : length shares ≡ P m
   shares-many = ap length are ∙ figures-length (P m) (shareOf m)
 
   share-at : (i : ℕ) → i < P m → at shares i ≡ shareOf m i
@@ -51,7 +51,7 @@ module _ (file : List ℕ) (s : Sections) (ok : Accepted file s) {shares : List 
   few-shares =
       record { few = omega (arith, shares-many, few-parties); fit = λ i b. omega (arith, share-at i (omega (arith, shares-many)), share-fits i (omega (arith, shares-many))) }
 
-  w-is : W (length shares) (at shares) ≡ monthW m
+  pub w-is : W (length shares) (at shares) ≡ monthW m
   unfolding W monthW
   w-is = ap (λ (n : ℕ). sum n (at shares)) shares-many ∙ sum-cong (P m) share-at
 

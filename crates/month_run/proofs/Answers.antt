@@ -10,13 +10,11 @@ use Rattle.answer.specs.Said.{said, named}
 use Rattle.answer.specs.declared.Answer.{Answer}
 use Rattle.answer.specs.declared.Answer.the-variants.{Done, Refused}
 use Rattle.answer.specs.declared.Refusal.{Refusal}
-use Rattle.month.specs.Outcomes.{OutcomeIs}
-use Rattle.month.specs.declared.Outcome.{Outcome}
 use Rattle.month_file.specs.Fields.{Accepted}
 use Rattle.month_file.specs.declared.Sections.{Sections}
 use Rattle.month_file.proofs.AcceptedFile.{read-as, hours-are, parties-are}
 use Rattle.month_run.specs.Run.{inMonth, lentRight, askedVerdict, runVerdict, Promised}
-use Rattle.month_run.specs.Running.{Settleable, RunLent, RunIs}
+use Rattle.month_run.specs.Running.{RunKnown, RunLent, RunIs}
 use Rattle.month_run.proofs.Verdicts.{run-inside, lengths}
 use Rattle.rules.specs.Month.{monthOf, verdictOn, fileVerdict}
 use Rattle.rules.specs.MonthFile.{H, P}
@@ -39,9 +37,9 @@ module _ (file : List ℕ) (start hours : ℕ) (d : List ℤ) (p : List ℕ) (x 
   refused-file {r} {v} {place} e is =
       refused-call e (ap said e ∙ sym (ap (λ (u : Verdict). andThen u asked) is))
 
-module _ (file : List ℕ) (s : Sections) (ok : Accepted file s) {outcome : Outcome} (is : OutcomeIs (monthOf file) outcome) (done : outcome .answer ≡ Done) where
-  pub settleable : Settleable file s
-  settleable = record { is-read = ok; none-refuses = sym (is .verdict) ∙ ap said done }
+module _ {file : List ℕ} {s : Sections} {applied numbers begun : List ℕ} (known : RunKnown file s applied numbers begun) where
+  ok : Accepted file s
+  ok = known .month .accepted
 
   -- the month is not refused, so what is asked of it decides
   module _ (start hours d p x l : ℕ) (right : Answer) (judged : said right ≡ askedVerdict (s .heading .hours) (s .heading .parties) start hours d p x l) where
@@ -51,7 +49,7 @@ module _ (file : List ℕ) (s : Sections) (ok : Accepted file s) {outcome : Outc
         judged
         ∙ sym
         (ap (λ (u : Verdict). andThen u (askedVerdict (H (monthOf file)) (P (monthOf file)) start hours d p x l))
-        (ap verdictOn (read-as file s ok) ∙ settleable .none-refuses)
+        (ap verdictOn (read-as file s ok) ∙ known .none-refuses)
         ∙ ap₂ (λ (h n : ℕ). askedVerdict h n start hours d p x l) (sym (hours-are file s ok)) (sym (parties-are file s ok)))
 
     module _ (passed : right ≡ Done) where

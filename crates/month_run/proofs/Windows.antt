@@ -10,7 +10,7 @@ use Rattle.apportion.specs.declared.Carries.{Carries}
 use Rattle.month.specs.Windows.{Span, windowPlaces}
 use Rattle.month.proofs.OneWindow as W
 use Rattle.month_file.specs.declared.Sections.{Sections}
-use Rattle.month_file.proofs.AcceptedFile.{parties-are}
+use Rattle.month_file.proofs.AcceptedFile.{month-whole, parties-are}
 use Rattle.month_hour.specs.Column.{column}
 use Rattle.month_hours.specs.Hours.{Readable, HourKnown, WindowKnown}
 use Rattle.month_hours.proofs.Bounds.{few-hours, few-parties, some-party}
@@ -21,6 +21,7 @@ use Rattle.month_run.specs.Running.{Carried, RunKnown, RunLent, Running,
 use Rattle.rules.specs.Month.{monthOf}
 use Rattle.rules.specs.MonthFile.{MonthFile, H, P}
 use Rattle.rules.proofs.Loops.{fill-start, fill-end}
+use Rattle.rules.proofs.Month.{periodised-in-range}
 
 -- as many hours as losses
 lengthwise : {m : MonthFile} {start all j : ℕ} {c : Carries} {d : List ℤ} {p : List ℕ} {x l : List ℤ} → Running m start all j c d p x l → Running m start (length l) j c d p x l
@@ -75,7 +76,7 @@ module _ {file : List ℕ} {s : Sections} {applied curveNumbers beginnings : Lis
     pub window-known : {window : List ℕ} → Window (monthOf file) start hours window → WindowKnown file s applied window start hours
     unfolding column
     window-known {window} holds =
-        record { accepted = known .month .accepted; judged = known .month .judged; applied-is = known .month .applied-is; inside = span .inside; readable = subst (λ (n : ℕ). Readable window n hours start) n-is (W.readable (known .month) span holds); periodised-is = λ i k b l. holds .each i k b l; in-limit = λ k b. known .in-limit (start + k) (omega (arith, span .inside)) }
+        record { accepted = known .month .accepted; judged = known .month .judged; applied-is = known .month .applied-is; inside = span .inside; readable = subst (λ (n : ℕ). Readable window n hours start) n-is (W.readable (known .month) span holds); periodised-is = λ i k b l. holds .each i k b l; in-limit = λ k b. periodised-in-range (monthOf file) (month-whole file s (known .month .accepted)) (known .none-refuses) (start + k) (omega (arith, span .inside)) }
 
 -- A loop over the windows: the run's first `done` hours are written.
 pub record Windowing (m : MonthFile) (start all done : ℕ) (c : Carries) (window : List ℕ) (d : List ℤ) (p : List ℕ) (x l : List ℤ) : Type 0 where

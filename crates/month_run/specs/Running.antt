@@ -1,19 +1,18 @@
 -- The hours of a run one after the other: what is known before them, what the carries are at an hour, and how far the lent outputs are filled.
 use mathlib.Core.List.{List}
 use mathlib.Core.Path.{_≡_}
-use Prim.Native.Nat.{ℕ, suc, _+_, _*_, _≤_, _<_}
+use Prim.Native.Nat.{ℕ, _+_, _*_, _≤_, _<_}
 use lib.IntN.{ℤ, pos}
 use lib.ListN.{length, getD, set}
 use Rattle.apportion.specs.Filled.{Filled}
 use Rattle.apportion.specs.Good.{Good}
 use Rattle.apportion.specs.declared.Carries.{Carries}
-use Rattle.month.specs.Windows.{MonthKnown, windowPlaces}
-use Rattle.month_file.specs.Fields.{Accepted}
+use Rattle.month.specs.Windows.{MonthKnown}
 use Rattle.month_file.specs.declared.Sections.{Sections}
 use Rattle.month_hour.specs.declared.Settled.{Settled}
 use Rattle.month_run.specs.Run.{distributedInRun, periodisedInRun, differenceInRun, lossInRun}
-use Rattle.rules.specs.Limits.{greatestPeriodised, greatestResidual, mostHours}
-use Rattle.rules.specs.Month.{monthOf, shareOf, appliedWh, allPeriodised, monthVerdict}
+use Rattle.rules.specs.Limits.{greatestResidual, mostHours}
+use Rattle.rules.specs.Month.{monthOf, shareOf, appliedWh, monthVerdict}
 use Rattle.rules.specs.MonthFile.{MonthFile, H, P}
 use Rattle.rules.specs.Refusals.{accepted}
 use Rattle.rules.specs.Words.{sum, at, figures}
@@ -25,11 +24,6 @@ pub record Carried (m : MonthFile) (t : ℕ) (c : Carries) : Type 0 where
   pub parties : c .parties ≡ P m
   pub share : Filled 0 (shareOf m) (P m) (c .share)
   pub residuals : c .«sum_wh» ≡ sum t (appliedWh m)
-
--- a file that is read, and no check of its month refuses
-pub record Settleable (file : List ℕ) (s : Sections) : Type 0 where
-  pub is-read : Accepted file s
-  pub none-refuses : monthVerdict (monthOf file) ≡ accepted
 
 -- carries that can take the first t of these residuals
 pub record Steppable (c : Carries) (residuals : List ℕ) (t : ℕ) : Type 0 where
@@ -46,10 +40,10 @@ pub record Stepped (c : Carries) (residuals : List ℕ) (t : ℕ) (r : Carries) 
   pub share : r .share ≡ c .share
   pub residuals-sum : r .«sum_wh» ≡ sum t (at residuals)
 
--- what every window of the run is made of: besides, "14 by hour" refuses no hour of the month
+-- what every window of the run is made of, of a month that no check refuses
 pub record RunKnown (file : List ℕ) (s : Sections) (applied curveNumbers beginnings : List ℕ) : Type 0 where
   pub month : MonthKnown file s applied curveNumbers beginnings
-  pub in-limit : (t : ℕ) → t < H (monthOf file) → allPeriodised (monthOf file) t ≤ greatestPeriodised
+  pub none-refuses : monthVerdict (monthOf file) ≡ accepted
 
 -- a run of as many hours as losses are asked for lies in the month, and a place is lent for each figure
 pub record RunLent (m : MonthFile) (start distributed periodised differences losses : ℕ) : Type 0 where
@@ -57,15 +51,6 @@ pub record RunLent (m : MonthFile) (start distributed periodised differences los
   pub distributed-size : distributed ≡ losses * P m
   pub periodised-size : periodised ≡ losses * P m
   pub differences-size : differences ≡ losses * P m
-
--- with a place lent besides for each thing that is made on the way
-pub record MakingLent (s : Sections) (shares fixed refixed curveNumbers beginnings window : ℕ) : Type 0 where
-  pub shares-size : shares ≡ s .heading .parties
-  pub fixed-size : fixed ≡ s .heading .hours
-  pub refixed-size : refixed ≡ s .refixed
-  pub curve-size : curveNumbers ≡ s .heading .hours
-  pub beginnings-size : beginnings ≡ suc (s .heading .hours)
-  pub window-size : window ≡ windowPlaces
 
 -- whatever series a list is being filled with, it is filled n places further if the figures are the series'
 abbrev pub FilledOn : {A : Type 0} → A → List A → ℕ → ℕ → List A → List A → Type 0
