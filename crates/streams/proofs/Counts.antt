@@ -14,11 +14,11 @@ use mir.Facts.{toZ-ofZ, fits-natAbs}
 use mir.Syntax.{w64}
 use mir.Val.{Fits, SFits, toZ, ofZ}
 use Rattle.libc.specs.Io.{Moved}
-use Rattle.statement.specs.Reading.{PieceWithin, InputWithin}
-use Rattle.statement.specs.declared.Input.{Input}
-use Rattle.statement.specs.declared.Input.the-variants as I
-use Rattle.statement.specs.declared.Piece.{Piece}
-use Rattle.statement.specs.declared.Piece.the-variants as P
+use Rattle.streams.specs.Reading.{PieceWithin, InputWithin}
+use Rattle.streams.specs.declared.Input.{Input}
+use Rattle.streams.specs.declared.Input.the-variants as I
+use Rattle.streams.specs.declared.Piece.{Piece}
+use Rattle.streams.specs.declared.Piece.the-variants as P
 
 not-negative : (z : ℤ) → ltZ (pos 0) z ≡ true → T (nonNeg z)
 not-negative (pos n) e = tt

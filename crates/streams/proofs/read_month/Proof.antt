@@ -1,12 +1,12 @@
--- `statement::read_month` meets its contract. The loop keeps the buffer's length and fills it piece by piece; the measure is what is still free.
+-- `streams::read_month` meets its contract. The loop keeps the buffer's length and fills it piece by piece; the measure is what is still free.
 -- Assumes nothing.
 use Prim.Native.Nat.{_-_}
 use native.Mathlib.Omega.{arith}
 use borrow.Author.Needs.{needs}
 use lib.ListN.{length}
-use Rattle.statement.proofs.Counts.{Filled, more, less-free, filled-more, up-to-full}
-use Rattle.statement.proofs.read_month.Statement.{statement}
-use Rattle.statement.proofs.read_month.Tie as tie
+use Rattle.streams.proofs.Counts.{Filled, more, less-free, filled-more, up-to-full}
+use Rattle.streams.proofs.read_month.Statement.{statement}
+use Rattle.streams.proofs.read_month.Tie as tie
 
 abbrev Inv-loop : tie.InvT-loop
 Inv-loop buffer₀ done₀ buffer done = Filled buffer₀ buffer done

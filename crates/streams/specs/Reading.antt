@@ -1,9 +1,9 @@
 -- What the counts of reading promise (01 "The statement program": "Reads one month file from standard input."). Which bytes were read, no contract can say.
 use Prim.Native.Nat.{ℕ, _≤_, _<_}
-use Rattle.statement.specs.declared.Input.{Input}
-use Rattle.statement.specs.declared.Input.the-variants as I
-use Rattle.statement.specs.declared.Piece.{Piece}
-use Rattle.statement.specs.declared.Piece.the-variants as P
+use Rattle.streams.specs.declared.Input.{Input}
+use Rattle.streams.specs.declared.Input.the-variants as I
+use Rattle.streams.specs.declared.Piece.{Piece}
+use Rattle.streams.specs.declared.Piece.the-variants as P
 
 -- a read that gives bytes gives at least one, and no more than the part that it was lent holds
 abbrev pub PieceWithin : Piece → ℕ → Type 0

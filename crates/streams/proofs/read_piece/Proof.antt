@@ -1,8 +1,8 @@
--- `statement::read_piece` meets its contract: an answer above 0 is a count of bytes within the lent part. Assumes nothing.
+-- `streams::read_piece` meets its contract: an answer above 0 is a count of bytes within the lent part. Assumes nothing.
 use borrow.Author.Needs.{needs}
-use Rattle.statement.proofs.Counts.{count-fits, count-within}
-use Rattle.statement.proofs.read_piece.Statement.{statement}
-use Rattle.statement.proofs.read_piece.Tie as tie
+use Rattle.streams.proofs.Counts.{count-fits, count-within}
+use Rattle.streams.proofs.read_piece.Statement.{statement}
+use Rattle.streams.proofs.read_piece.Tie as tie
 
 read-requires : tie.Need-read-requires
 read-requires c κs = search needs
