@@ -1,6 +1,6 @@
 -- What an accepted file's sections say of the month that the file is read as: for the crates above, which know the file and its sections alone.
 use mathlib.Core.List.{List}
-use mathlib.Core.Path.{_≡_, refl, sym, _∙_, ap}
+use mathlib.Core.Path.{_≡_, sym, _∙_, ap}
 use Prim.Native.Nat.{ℕ}
 use lib.IntN.{ℤ}
 use lib.ListN.{length}
@@ -13,7 +13,7 @@ use Rattle.month_file.specs.Walk.{readAnswer, sectionsOf}
 use Rattle.month_file.proofs.Readers.{its-month}
 use Rattle.rules.specs.Month.{monthRead, monthOf, flowsAt, partyAt, priceAt, readingAt, shareOf}
 use Rattle.rules.specs.MonthFile.{MonthFile, H, P, readMonth}
-use Rattle.rules.specs.Refusals.{Answer, given}
+use Rattle.rules.specs.Refusals.{given}
 use Rattle.rules.proofs.Whole.{Whole, what-is-read-is-whole}
 
 pub month-of : (file : List ℕ) {m : MonthFile} → readMonth file ≡ given m → monthOf file ≡ m
