@@ -16,8 +16,8 @@ use Rattle.month_hours.specs.Hours.{Readable, HourKnown, WindowKnown}
 use Rattle.month_hours.proofs.Bounds.{few-hours, few-parties, some-party}
 use Rattle.month_hours.proofs.Windows.{applied-long, hour-known}
 use Rattle.month_readings.specs.Window.{Window}
-use Rattle.month_run.specs.Run.{distributedInRun, periodisedInRun, differenceInRun, lossInRun}
-use Rattle.month_run.specs.Running.{Carried, RunKnown, RunLent, Running, RunIs}
+use Rattle.month_run_hours.specs.InRun.{distributedInRun, periodisedInRun, differenceInRun, lossInRun}
+use Rattle.month_run_hours.specs.Running.{Carried, RunKnown, RunLent, Running, RunIs}
 use Rattle.rules.specs.Month.{monthOf}
 use Rattle.rules.specs.MonthFile.{MonthFile, H, P}
 use Rattle.rules.proofs.Loops.{fill-start, fill-end}

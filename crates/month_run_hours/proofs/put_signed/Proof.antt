@@ -1,4 +1,4 @@
--- `month_run::put_signed` meets its contract: whatever series the list is filled with, each turn fills one place more. Assumes nothing.
+-- `month_run_hours::put_signed` meets its contract: whatever series the list is filled with, each turn fills one place more. Assumes nothing.
 use lib.IntN.{pos}
 use lib.ListN.{getD}
 use mir.Facts.{toZ-ofZ}
@@ -6,10 +6,10 @@ use mir.Syntax.{w64}
 use mir.Val.{SFits}
 use Prim.Native.Nat.{_-_}
 use native.Mathlib.Omega.{arith}
-use Rattle.month_run.proofs.Putting.{Putting, put-start, put-next, put-end}
+use Rattle.month_run_hours.proofs.Putting.{Putting, put-start, put-next, put-end}
 use borrow.Author.Needs.{needs}
-use Rattle.month_run.proofs.put_signed.Statement.{statement}
-use Rattle.month_run.proofs.put_signed.Tie as tie
+use Rattle.month_run_hours.proofs.put_signed.Statement.{statement}
+use Rattle.month_run_hours.proofs.put_signed.Tie as tie
 
 abbrev Inv-loop : tie.InvT-loop
 Inv-loop from n out₀ place i₀ out i = Putting (pos 0) from n place out₀ i out

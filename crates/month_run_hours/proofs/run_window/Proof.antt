@@ -1,11 +1,11 @@
--- `month_run::run_window` meets its contract: its places hold what is periodised, and then its hours are written. Assumes nothing.
+-- `month_run_hours::run_window` meets its contract: its places hold what is periodised, and then its hours are written. Assumes nothing.
 use native.Mathlib.Omega.{arith}
 use Rattle.month.proofs.OneWindow as W
 use Rattle.month_hours.proofs.Bounds.{few-hours}
-use Rattle.month_run.proofs.Windows.{window-known}
+use Rattle.month_run_hours.proofs.Windows.{window-known}
 use borrow.Author.Needs.{needs}
-use Rattle.month_run.proofs.run_window.Statement.{statement}
-use Rattle.month_run.proofs.run_window.Tie as tie
+use Rattle.month_run_hours.proofs.run_window.Statement.{statement}
+use Rattle.month_run_hours.proofs.run_window.Tie as tie
 
 add-window : tie.Need-add-window
 add-window c = omega (arith, c .before .before .before .before .before .before .pre .1 .0 .inside, few-hours _ (c .before .before .before .before .before .before .pre .0 .month .judged))

@@ -5,7 +5,7 @@ use Prim.Native.Nat.{ℕ, _+_, _≤_, _<_, zero-le}
 use native.Mathlib.Nat.{add-zero, add-assoc, le-antisymm}
 use native.Mathlib.Omega.{arith}
 use lib.ListN.{length, getD, set, length-set}
-use Rattle.month_run.specs.Running.{FilledOn}
+use Rattle.month_run_hours.specs.Running.{FilledOn}
 use Rattle.rules.proofs.Loops.{Filling, fill-next}
 
 -- A loop that has put the first i of n figures.

@@ -1,10 +1,10 @@
--- `month_run::carried_to` meets its contract: after t hours the carries are those of the first t residuals. Assumes nothing.
+-- `month_run_hours::carried_to` meets its contract: after t hours the carries are those of the first t residuals. Assumes nothing.
 use Prim.Native.Nat.{_-_}
 use native.Mathlib.Omega.{arith}
-use Rattle.month_run.proofs.Carrying.{Stepping, step-start, step-ready, step-next, step-end}
+use Rattle.month_run_hours.proofs.Carrying.{Stepping, step-start, step-ready, step-next, step-end}
 use borrow.Author.Needs.{needs}
-use Rattle.month_run.proofs.carried_to.Statement.{statement}
-use Rattle.month_run.proofs.carried_to.Tie as tie
+use Rattle.month_run_hours.proofs.carried_to.Statement.{statement}
+use Rattle.month_run_hours.proofs.carried_to.Tie as tie
 
 abbrev Inv-loop : tie.InvT-loop
 Inv-loop applied-wh start next₀ t₀ next t = Stepping next₀ applied-wh start t next

@@ -1,13 +1,13 @@
--- `month_run::run_windows` meets its contract: the hours before each window are written. Assumes nothing.
+-- `month_run_hours::run_windows` meets its contract: the hours before each window are written. Assumes nothing.
 use Prim.Native.Nat.{_-_}
 use native.Mathlib.Omega.{arith}
 use mathlib.Core.Path.{sym, _∙_}
 use Rattle.rules.specs.Month.{monthOf}
 use lib.ListN.{length}
-use Rattle.month_run.proofs.Windows.{Windowing, some, windows-start, places-fit, hours-some, short, part-fits, spans, left-here, running-now, windows-next, windows-end}
+use Rattle.month_run_hours.proofs.Windows.{Windowing, some, windows-start, places-fit, hours-some, short, part-fits, spans, left-here, running-now, windows-next, windows-end}
 use borrow.Author.Needs.{needs}
-use Rattle.month_run.proofs.run_windows.Statement.{statement}
-use Rattle.month_run.proofs.run_windows.Tie as tie
+use Rattle.month_run_hours.proofs.run_windows.Statement.{statement}
+use Rattle.month_run_hours.proofs.run_windows.Tie as tie
 
 abbrev Inv-loop : tie.InvT-loop
 Inv-loop file s applied-wh curve beginnings start window₀ distributed-wh₀ periodised-wh₀ differences-wh₀ losses-wh₀ n span all next₀ done₀ window distributed-wh periodised-wh differences-wh losses-wh next done = Windowing (monthOf file) start (length losses-wh₀) done next window distributed-wh periodised-wh differences-wh losses-wh

@@ -10,7 +10,7 @@ use Rattle.apportion.specs.declared.Carries.{Carries}
 use Rattle.month.specs.Windows.{MonthKnown}
 use Rattle.month_file.specs.declared.Sections.{Sections}
 use Rattle.month_hour.specs.declared.Settled.{Settled}
-use Rattle.month_run.specs.Run.{distributedInRun, periodisedInRun, differenceInRun, lossInRun}
+use Rattle.month_run_hours.specs.InRun.{distributedInRun, periodisedInRun, differenceInRun, lossInRun}
 use Rattle.rules.specs.Limits.{greatestResidual, mostHours}
 use Rattle.rules.specs.Month.{monthOf, shareOf, appliedWh, monthVerdict}
 use Rattle.rules.specs.MonthFile.{MonthFile, H, P}

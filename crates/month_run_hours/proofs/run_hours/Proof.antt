@@ -1,13 +1,13 @@
--- `month_run::run_hours` meets its contract: after k hours of the window they are written. Assumes nothing.
+-- `month_run_hours::run_hours` meets its contract: after k hours of the window they are written. Assumes nothing.
 use Prim.Native.Nat.{_-_}
 use native.Mathlib.Omega.{arith}
 use mathlib.Core.Path.{sym, _∙_}
 use Rattle.rules.specs.Month.{monthOf}
 use lib.ListN.{length}
-use Rattle.month_run.proofs.Windows.{Hourly, hours-start, applied-there, known-here, in-run, running-here, hours-next, hours-end}
+use Rattle.month_run_hours.proofs.Windows.{Hourly, hours-start, applied-there, known-here, in-run, running-here, hours-next, hours-end}
 use borrow.Author.Needs.{needs}
-use Rattle.month_run.proofs.run_hours.Statement.{statement}
-use Rattle.month_run.proofs.run_hours.Tie as tie
+use Rattle.month_run_hours.proofs.run_hours.Statement.{statement}
+use Rattle.month_run_hours.proofs.run_hours.Tie as tie
 
 abbrev Inv-loop : tie.InvT-loop
 Inv-loop file s applied-wh window start done hours distributed-wh₀ periodised-wh₀ differences-wh₀ losses-wh₀ next₀ k₀ distributed-wh periodised-wh differences-wh losses-wh next k = Hourly (monthOf file) start (length losses-wh₀) done hours k next distributed-wh periodised-wh differences-wh losses-wh

@@ -13,9 +13,9 @@ use Rattle.month_file.proofs.AcceptedFile.{parties-are}
 use Rattle.month_hour.specs.declared.Settled.{Settled}
 use Rattle.month_hours.specs.Hours.{HourKnown, DistributedIs, SettledIs}
 use Rattle.month_hours.proofs.Bounds.{few-parties}
-use Rattle.month_run.specs.Run.{distributedInRun, periodisedInRun, differenceInRun, lossInRun}
-use Rattle.month_run.specs.Running.{Carried, Running, HourLent, HourWritten}
-use Rattle.month_run.proofs.Carrying as C
+use Rattle.month_run_hours.specs.InRun.{distributedInRun, periodisedInRun, differenceInRun, lossInRun}
+use Rattle.month_run_hours.specs.Running.{Carried, Running, HourLent, HourWritten}
+use Rattle.month_run_hours.proofs.Carrying as C
 use Rattle.rules.specs.Month.{monthOf, distributed, periodised, difference, loss}
 use Rattle.rules.specs.MonthFile.{MonthFile, P}
 use Rattle.rules.proofs.Loops.{Filling, fill-next}

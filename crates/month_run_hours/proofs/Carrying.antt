@@ -14,7 +14,7 @@ use Rattle.apportion.proofs.Arrays.{filled-as}
 use Rattle.apportion.proofs.Hours.{running-same}
 use Rattle.month_hours.specs.Hours.{DistributedIs}
 use Rattle.month_hours.proofs.Bounds.{few-hours, sums-fitℕ}
-use Rattle.month_run.specs.Running.{Carried, Steppable, Stepped}
+use Rattle.month_run_hours.specs.Running.{Carried, Steppable, Stepped}
 use Rattle.rules.specs.Distributed.{runningAfter, distributedFigure}
 use Rattle.rules.specs.Month.{shareOf, appliedWh, distributed}
 use Rattle.rules.specs.MonthFile.{MonthFile, H, P}
