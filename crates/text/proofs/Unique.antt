@@ -12,7 +12,7 @@ use Rattle.text.specs.Text.{Put, roomForRefusal, atStart, told}
 use Rattle.text.specs.declared.Written.{Written}
 use Rattle.text.specs.declared.Written.the-variants.{Bytes, Refused}
 
--- a text put at a place: the buffer, and the place after it (`put_number`, `heading_line`, `columns_line`)
+-- a text put at a place: the buffer, and the place after it (every public function but `refusal_line`)
 pub put-once : {text before a b : List ℕ} {place m n : ℕ} → Put text before place a m → Put text before place b n → (a ≡ b) × (m ≡ n)
 put-once p q = (p .is ∙ sym (q .is), p .ends ∙ sym (q .ends))
 

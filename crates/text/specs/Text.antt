@@ -2,7 +2,7 @@
 -- The texts themselves stand in the rules.
 use mathlib.Core.List.{List, _++_}
 use mathlib.Core.Path.{_≡_}
-use Prim.Native.Nat.{ℕ, _+_}
+use Prim.Native.Nat.{ℕ, _+_, _≤_}
 use lib.Dec.{leb}
 use lib.ListN.{length, drop}
 use lib.Seq.{sets}
@@ -15,6 +15,11 @@ use Rattle.text.specs.declared.Written.the-variants.{Bytes, Refused}
 pub record Put (text before : List ℕ) (place : ℕ) (after : List ℕ) (end : ℕ) : Type 0 where
   pub is : after ≡ sets before place text
   pub ends : end ≡ place + length text
+
+-- and it is not longer than the room that is kept for it
+pub record LinePut (text before : List ℕ) (place room : ℕ) (after : List ℕ) (end : ℕ) : Type 0 where
+  pub put : Put text before place after end
+  pub within : end ≤ place + room
 
 -- the most digits of a number of 64 bits
 abbrev pub mostDigits : ℕ

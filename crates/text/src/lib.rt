@@ -60,7 +60,7 @@ fn put_width(out: &mut [u8], place: usize, width: usize, n: u64) -> usize
 }
 
 // Bytes as they are.
-fn put_bytes(out: &mut [u8], place: usize, text: &[u8]) -> usize
+pub fn put_bytes(out: &mut [u8], place: usize, text: &[u8]) -> usize
     requires { ⌜ place + length (now text) ≤ length (now out) ⌝ }
     ensures { λ end. ⌜ Put (now (text .entry)) (now (out .entry)) place (now (out .exit)) end ⌝ }
 {
@@ -97,7 +97,7 @@ fn put_signed(out: &mut [u8], place: usize, z: i64) -> usize
 }
 
 // A word, and then a number: as it is, or with so many digits.
-fn put_word_number(out: &mut [u8], place: usize, word: &[u8], n: u64) -> usize
+pub fn put_word_number(out: &mut [u8], place: usize, word: &[u8], n: u64) -> usize
     requires { ⌜ place + length (now word) + mostDigits ≤ length (now out) ⌝ }
     ensures text { λ end. ⌜ Put (now (word .entry) ++ decimal n) (now (out .entry)) place (now (out .exit)) end ⌝ }
     ensures within { λ end. ⌜ end ≤ place + length (now (word .entry)) + mostDigits ⌝ }
@@ -116,7 +116,7 @@ fn put_word_width(out: &mut [u8], place: usize, word: &[u8], width: usize, n: u6
 }
 
 // A column: a space, and then a number with its sign.
-fn put_column(out: &mut [u8], place: usize, z: i64) -> usize
+pub fn put_column(out: &mut [u8], place: usize, z: i64) -> usize
     requires { ⌜ place + columnRoom ≤ length (now out) ⌝ }
     ensures text { λ end. ⌜ Put (ascii " " ++ signedDecimal z) (now (out .entry)) place (now (out .exit)) end ⌝ }
     ensures within { λ end. ⌜ end ≤ place + columnRoom ⌝ }
