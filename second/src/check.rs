@@ -1,4 +1,4 @@
-//! The comparison of another statement program with this one, byte for byte, over the files of a seed.
+//! The comparison of another program, of either report, with this one, byte for byte, over the files of a seed.
 //!
 //! A file reaches the program in one piece, being its standard input, or in several through a pipe, each given only once
 //! the one before has been read: then no read gets more than a piece.
@@ -16,9 +16,9 @@ use std::thread;
 use crate::make::{file, MadeFile, Tally};
 use crate::month::settle;
 use crate::random::Random;
-use crate::statement::printed;
+use crate::report::Report;
 
-/// More than any statement: what a program prints beyond it is not waited for.
+/// More than any report: what a program prints beyond it is not waited for.
 const OUTPUT_BYTES_MAX: u64 = 1 << 20;
 
 /// A file has 1 to so many cuts. Each piece costs a change of processes, which takes long on a busy machine.
@@ -50,9 +50,10 @@ impl Feed {
     }
 }
 
-/// The first so many files of a seed, each fed to the program in these ways, on so many threads.
+/// The first so many files of a seed, each fed to the program of this report in these ways, on so many threads.
 pub struct Check<'a> {
     pub program: &'a Path,
+    pub report: Report,
     pub seed: u64,
     pub count: u64,
     pub feeds: &'a [Feed],
@@ -121,7 +122,7 @@ impl Check<'_> {
         let at_path = |error: io::Error| format!("{}: {error}", path.display());
         fs::write(&path, &made.bytes).map_err(at_path)?;
         let judged = settle(&made.bytes);
-        let expected = printed(&judged);
+        let expected = self.report.printed(&judged);
         for &feed in self.feeds {
             let told = |message: &str| {
                 format!(

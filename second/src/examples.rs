@@ -1,4 +1,5 @@
-//! The stored examples: S1 of 01, a full month with realistic figures, and a month with a silent hour.
+//! The stored examples: S1 of 01, a full month with realistic figures, a month with a silent hour, and the case D3 of 01 as
+//! a month that can be worked out by hand.
 
 use crate::draft::{measured_hour, prices_of, Draft, DraftParty};
 use crate::gln::with_check_digit;
@@ -7,7 +8,7 @@ use crate::random::Random;
 use crate::record::{Heading, HourFlows, Reading};
 
 /// The names of the examples.
-pub const NAMES: [&str; 3] = ["s1", "full", "silent"];
+pub const NAMES: [&str; 4] = ["s1", "full", "silent", "d3"];
 
 /// The month file of an example; None for an unknown name.
 pub fn example(name: &str) -> Option<Vec<u8>> {
@@ -15,6 +16,7 @@ pub fn example(name: &str) -> Option<Vec<u8>> {
         "s1" => Some(s1().bytes()),
         "full" => Some(full().bytes()),
         "silent" => Some(silent().bytes()),
+        "d3" => Some(d3().bytes()),
         _ => None,
     }
 }
@@ -45,18 +47,76 @@ pub fn s1() -> Draft {
             parties: 3,
             carrier: 2,
         },
-        parties: (0..3)
-            .map(|party| DraftParty {
-                gln: with_check_digit(party as u64 + 1),
-                load_share_kwh: shares_kwh[party],
-            })
-            .collect(),
+        parties: numbered_parties(shares_kwh),
         fixed: series(fixed_wh),
         refixed: series(refixed_wh),
         prices: prices_of([29_000, 33_000, 30_000]),
         readings: (0..9).map(|n| one_hour_reading(n / 3, n % 3)).collect(),
         end_count: None,
     }
+}
+
+/// "D3 P: shares 6, 6, 2, residuals 10, 1", with flows, prices and readings of a few Wh. Hour 1 is estimated, the fixed
+/// series is the applied one, and more is read in hour 1 than was supplied.
+pub fn d3() -> Draft {
+    Draft {
+        heading: Heading {
+            area: 3,
+            year: 2016,
+            month: 6,
+            hours: 2,
+            parties: 3,
+            carrier: 1,
+        },
+        parties: numbered_parties([6, 6, 2]),
+        fixed: vec![
+            HourFlows {
+                hour: 0,
+                status: STATUS_MEASURED,
+                net_supply_wh: 16,
+                production_wh: 3,
+                hourly_wh: 6,
+                flex_wh: 3,
+            },
+            HourFlows {
+                hour: 1,
+                status: STATUS_ESTIMATED,
+                net_supply_wh: -2,
+                production_wh: 8,
+                hourly_wh: 4,
+                flex_wh: 1,
+            },
+        ],
+        refixed: Vec::new(),
+        // 2 and -1.5 øre per Wh: two of the amounts end on half an øre.
+        prices: prices_of([2_000_000, -1_500_000]),
+        readings: vec![
+            Reading {
+                party: 0,
+                a: 0,
+                b: 2,
+                e_wh: 6,
+            },
+            Reading {
+                party: 2,
+                a: 1,
+                b: 2,
+                e_wh: 2,
+            },
+        ],
+        end_count: None,
+    }
+}
+
+/// Parties of these load shares. The first twelve digits of their GLNs are 1, 2, 3.
+fn numbered_parties(shares_kwh: [u64; 3]) -> Vec<DraftParty> {
+    let parties = shares_kwh.into_iter().zip(1..);
+    parties
+        .map(|(load_share_kwh, number)| DraftParty {
+            gln: with_check_digit(number),
+            load_share_kwh,
+        })
+        .collect()
 }
 
 /// May 2016 in a made-up grid area: 744 hours, 40 parties.

@@ -16,6 +16,8 @@
 //! | `reconciliation` | "Reconciliation", one hour; the invoice figure |
 //! | `month` | a whole month: the order of refusals, the hours' figures, the month sums |
 //! | `statement` | "The statement program" |
+//! | `hours` | what the reviewer of 00 asks about a month; its layout stands at its head |
+//! | `report` | either program's output: its text, or the refusal line |
 //!
 //! The rest makes files to judge by: `random` (seeded numbers), `draft` (a month that can be edited), `make` and
 //! `damage` (months of every shape and with every fault), `examples` (the stored ones), `check` (comparing another
@@ -34,6 +36,7 @@ pub mod distribution;
 pub mod draft;
 pub mod examples;
 pub mod gln;
+pub mod hours;
 pub mod limits;
 pub mod make;
 pub mod month;
@@ -43,5 +46,6 @@ pub mod random;
 pub mod reconciliation;
 pub mod record;
 pub mod refusal;
+pub mod report;
 pub mod residual;
 pub mod statement;

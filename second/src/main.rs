@@ -1,10 +1,12 @@
 //! The command `second`.
 //!
 //! - `second statement < FILE` prints what the statement program prints.
+//! - `second hours < FILE` prints what the hours program prints.
 //! - `second make --seed S --count N --out DIR` writes month files and their expected output.
-//! - `second check --program PATH --seed S --count N` compares another statement program with this one; a long campaign is
-//!   run with `--threads T`, and with `--feed whole` (or `pieces`) instead of both.
-//! - `second example NAME` writes the month file of an example (s1, full, silent).
+//! - `second check --program PATH --seed S --count N` compares another statement program with this one, or with `--report
+//!   hours` another hours program; a long campaign is run with `--threads T`, and with `--feed whole` (or `pieces`) instead
+//!   of both.
+//! - `second example NAME` writes the month file of an example (s1, full, silent, d3).
 //! - `second bench-file ..` writes a month file of a chosen size (bench/README.md).
 
 use std::io::{self, Read, Write};
@@ -15,19 +17,22 @@ use std::time::Instant;
 use second::bench::{bench_file, Fault, Readings, Size};
 use second::check::{Check, Feed};
 use second::limits::{FILE_BYTES_MAX, HOURS, PARTIES};
-use second::{examples, make, statement};
+use second::month::settle;
+use second::report::Report;
+use second::{examples, make};
 
-const USAGE: &str = "usage: second statement < FILE
+const USAGE: &str = "usage: second statement|hours < FILE
        second make --seed S --count N --out DIR
-       second check --program PATH --seed S --count N [--feed whole|pieces|both] [--threads T]
-       second example s1|full|silent
+       second check --program PATH --seed S --count N [--report statement|hours] [--feed whole|pieces|both] [--threads T]
+       second example s1|full|silent|d3
        second bench-file --hours H --parties P --series fixed|refixed --readings N|most --span HOURS [--fault byte|count]";
 
 fn main() -> ExitCode {
     let arguments: Vec<String> = std::env::args().skip(1).collect();
     let words: Vec<&str> = arguments.iter().map(String::as_str).collect();
     let done = match words[..] {
-        ["statement"] => print_statement(),
+        ["statement"] => print_report(Report::Statement),
+        ["hours"] => print_report(Report::Hours),
         ["make", ref options @ ..] => make_files(options),
         ["check", ref options @ ..] => check_program(options),
         ["example", name] => print_example(name),
@@ -43,15 +48,15 @@ fn main() -> ExitCode {
     }
 }
 
-/// Prints the statement of the file on standard input. One byte more than a file may have is enough to know that it is
-/// too long.
-fn print_statement() -> Result<(), String> {
+/// Prints the report of the file on standard input. One byte more than a file may have is enough to know that it is too
+/// long.
+fn print_report(report: Report) -> Result<(), String> {
     let mut file = Vec::new();
     io::stdin()
         .take(FILE_BYTES_MAX as u64 + 1)
         .read_to_end(&mut file)
         .map_err(|error| format!("standard input cannot be read: {error}"))?;
-    print_bytes(statement::statement(&file).as_bytes())
+    print_bytes(report.printed(&settle(&file)).as_bytes())
 }
 
 fn print_example(name: &str) -> Result<(), String> {
@@ -77,9 +82,11 @@ fn make_files(options: &[&str]) -> Result<(), String> {
 }
 
 fn check_program(options: &[&str]) -> Result<(), String> {
+    let report = option(options, "--report").unwrap_or("statement");
     let feed = option(options, "--feed").unwrap_or("both");
     let check = Check {
         program: Path::new(option(options, "--program")?),
+        report: Report::named(report).ok_or(USAGE)?,
         seed: number(options, "--seed")?,
         count: number(options, "--count")?,
         feeds: Feed::named(feed).ok_or(USAGE)?,
@@ -94,7 +101,8 @@ fn check_program(options: &[&str]) -> Result<(), String> {
     tally.complete()?;
     let seconds = start.elapsed().as_secs();
     let (seed, count) = (check.seed, check.count);
-    let summary = format!("seed {seed}: {count} files, none differs ({feed}, {seconds} s)\n");
+    let summary =
+        format!("seed {seed}: {count} files, none differs ({report}, {feed}, {seconds} s)\n");
     print_bytes(summary.as_bytes())
 }
 

@@ -22,8 +22,8 @@ use crate::periodisation::periodised_wh;
 use crate::random::Random;
 use crate::record::{Heading, HourFlows, Reading};
 use crate::refusal::Refusal;
+use crate::report::Report;
 use crate::residual::{curve_number, residual_wh};
-use crate::statement::printed;
 
 /// What the maker of a file meant it to give. The expected output comes from the file itself; the tests hold the two
 /// against each other.
@@ -67,7 +67,7 @@ pub fn files(seed: u64, count: u64) -> impl Iterator<Item = MadeFile> {
     (0..count).map(move |number| file(seed, number))
 }
 
-/// Writes the files of a seed as NNNNNNN.month and their expected outputs as NNNNNNN.expected.
+/// Writes the files of a seed as NNNNNNN.month and their statements, or refusal lines, as NNNNNNN.expected.
 pub fn write_files(seed: u64, count: u64, directory: &Path) -> io::Result<Tally> {
     fs::create_dir_all(directory)?;
     let mut tally = Tally::default();
@@ -75,7 +75,8 @@ pub fn write_files(seed: u64, count: u64, directory: &Path) -> io::Result<Tally>
         let path = directory.join(format!("{:07}.month", made.number));
         fs::write(&path, &made.bytes)?;
         let judged = settle(&made.bytes);
-        fs::write(path.with_extension("expected"), printed(&judged))?;
+        let expected = Report::Statement.printed(&judged);
+        fs::write(path.with_extension("expected"), expected)?;
         tally.count(&judged);
     }
     Ok(tally)

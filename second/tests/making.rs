@@ -15,6 +15,7 @@ use second::limits::FILE_BYTES_MAX;
 use second::make::{file, files, month, write_files, Aim, MadeFile, Tally, SHAPES};
 use second::month::{settle, Month};
 use second::random::Random;
+use second::report::Report;
 use second::statement::statement;
 
 /// What the maker meant and what the reader says, each from its own side.
@@ -230,10 +231,10 @@ fn script(directory: &Path, text: &str) -> PathBuf {
 
 const BOTH: &[Feed] = &[Feed::Whole, Feed::Pieces];
 
-/// This program itself.
-fn itself(directory: &Path) -> PathBuf {
+/// This program itself, with the report of this name.
+fn itself(directory: &Path, report: &str) -> PathBuf {
     let second = env!("CARGO_BIN_EXE_second");
-    script(directory, &format!("exec '{second}' statement"))
+    script(directory, &format!("exec '{second}' {report}"))
 }
 
 fn check(
@@ -245,6 +246,7 @@ fn check(
 ) -> Result<Tally, String> {
     let check = Check {
         program,
+        report: Report::Statement,
         seed,
         count,
         feeds,
@@ -256,7 +258,7 @@ fn check(
 #[test]
 fn check_accepts_this_program_itself() {
     let directory = temporary("itself");
-    let program = itself(&directory);
+    let program = itself(&directory, "statement");
     let tally = check(&program, 6, 200, BOTH, 1).unwrap();
     assert_eq!(tally.complete(), Ok(()));
     // The same files on three threads.
@@ -293,6 +295,33 @@ fn check_tells_the_first_difference_and_leaves_the_file() {
             "{message}"
         );
         assert_left(&message, &file(7, 0));
+    }
+    fs::remove_dir_all(directory).unwrap();
+}
+
+/// The two reports have their first line in common and no more.
+#[test]
+fn check_tells_one_report_from_the_other() {
+    let directory = temporary("other-report");
+    for (printed, report, words) in [
+        ("statement", Report::Hours, "line 2 is to be \"0 measured "),
+        (
+            "hours",
+            Report::Statement,
+            "but was printed as \"0 measured ",
+        ),
+    ] {
+        let check = Check {
+            program: &itself(&directory, printed),
+            report,
+            seed: 17,
+            count: 10,
+            feeds: BOTH,
+            threads: 1,
+        };
+        let message = check.run().err().unwrap();
+        assert!(message.contains(words), "{message}");
+        assert_left(&message, &file(17, 0));
     }
     fs::remove_dir_all(directory).unwrap();
 }
@@ -351,7 +380,7 @@ fn check_minds_how_the_program_ends() {
 #[test]
 fn the_check_command_fails_where_something_did_not_occur() {
     let directory = temporary("command");
-    let program = itself(&directory);
+    let program = itself(&directory, "statement");
     let command = |seed: &str, count: &str, more: &[&str]| {
         Command::new(env!("CARGO_BIN_EXE_second"))
             .args(["check", "--seed", seed, "--count", count, "--program"])
@@ -363,7 +392,7 @@ fn the_check_command_fails_where_something_did_not_occur() {
     let all = command("16", "200", &["--threads", "2"]);
     let text = String::from_utf8(all.stdout).unwrap();
     assert!(
-        text.contains("seed 16: 200 files, none differs (both, "),
+        text.contains("seed 16: 200 files, none differs (statement, both, "),
         "{text}"
     );
     assert!(all.status.success());
@@ -371,9 +400,38 @@ fn the_check_command_fails_where_something_did_not_occur() {
     let message = String::from_utf8(few.stderr).unwrap();
     assert!(message.starts_with("did not occur: refused "), "{message}");
     assert_eq!(few.status.code(), Some(1));
-    for more in [["--feed", "half"], ["--threads", "many"]] {
-        assert_eq!(command("16", "3", &more).status.code(), Some(1));
+    for more in [
+        ["--feed", "half"],
+        ["--threads", "many"],
+        ["--report", "both"],
+    ] {
+        let refused = command("16", "3", &more);
+        let message = String::from_utf8(refused.stderr).unwrap();
+        assert!(
+            message.starts_with("usage: ") || message.ends_with(" is not a whole number\n"),
+            "{message}"
+        );
+        assert_eq!(refused.status.code(), Some(1));
     }
+    fs::remove_dir_all(directory).unwrap();
+}
+
+#[test]
+fn the_check_command_takes_the_report_by_name() {
+    let directory = temporary("report");
+    let program = itself(&directory, "hours");
+    let hours = Command::new(env!("CARGO_BIN_EXE_second"))
+        .args(["check", "--seed", "18", "--count", "200", "--program"])
+        .arg(&program)
+        .args(["--threads", "2", "--report", "hours"])
+        .output()
+        .unwrap();
+    let text = String::from_utf8(hours.stdout).unwrap();
+    assert!(
+        text.contains("seed 18: 200 files, none differs (hours, both, "),
+        "{text}"
+    );
+    assert!(hours.status.success());
     fs::remove_dir_all(directory).unwrap();
 }
 

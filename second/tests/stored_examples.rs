@@ -1,12 +1,16 @@
-//! The stored examples are what `second example` makes and what the statement prints for them; and the program itself.
+//! The stored examples are what `second example` makes and what statement and hours print for them; and the program itself.
 
 use std::fs::{self, File};
 use std::path::PathBuf;
 use std::process::{Command, Output, Stdio};
 
 use second::examples::{example, full, NAMES};
+use second::hours::hours;
 use second::month::settle;
 use second::statement::statement;
+
+/// The commands that print a report, and the endings of the files that store one.
+const REPORTS: [&str; 2] = ["statement", "hours"];
 
 fn stored(name: &str) -> PathBuf {
     let directory = PathBuf::from(env!("CARGO_MANIFEST_DIR")).join("../examples");
@@ -28,6 +32,8 @@ fn stored_examples_are_up_to_date() {
         assert_eq!(file, example(name).unwrap(), "{name}");
         let text = fs::read_to_string(stored(&format!("{name}.statement"))).unwrap();
         assert_eq!(text, statement(&file), "{name}");
+        let text = fs::read_to_string(stored(&format!("{name}.hours"))).unwrap();
+        assert_eq!(text, hours(&file), "{name}");
     }
 }
 
@@ -48,28 +54,34 @@ fn the_full_month_is_a_full_month() {
 }
 
 #[test]
-fn the_program_prints_statements_and_examples() {
+fn the_program_prints_reports_and_examples() {
     for name in NAMES {
-        let input = File::open(stored(&format!("{name}.month"))).unwrap();
-        let printed = second(&["statement"], input.into());
-        let expected = fs::read(stored(&format!("{name}.statement"))).unwrap();
-        assert_eq!(printed.stdout, expected);
-        assert!(printed.status.success());
+        for report in REPORTS {
+            let input = File::open(stored(&format!("{name}.month"))).unwrap();
+            let printed = second(&[report], input.into());
+            let expected = fs::read(stored(&format!("{name}.{report}"))).unwrap();
+            assert_eq!(printed.stdout, expected);
+            assert!(printed.status.success());
+        }
         let made = second(&["example", name], Stdio::null());
         assert_eq!(made.stdout, example(name).unwrap());
     }
-    let empty = second(&["statement"], Stdio::null());
-    assert_eq!(empty.stdout, b"refused 1 at 0\n");
+    for report in REPORTS {
+        let empty = second(&[report], Stdio::null());
+        assert_eq!(empty.stdout, b"refused 1 at 0\n");
+    }
 }
 
 /// A directory can be opened and not be read.
 #[test]
 fn a_read_error_prints_nothing_and_fails() {
-    let directory = File::open(stored("")).unwrap();
-    let printed = second(&["statement"], directory.into());
-    assert_eq!(printed.stdout, b"");
-    assert!(!printed.stderr.is_empty());
-    assert_eq!(printed.status.code(), Some(1));
+    for report in REPORTS {
+        let directory = File::open(stored("")).unwrap();
+        let printed = second(&[report], directory.into());
+        assert_eq!(printed.stdout, b"");
+        assert!(!printed.stderr.is_empty());
+        assert_eq!(printed.status.code(), Some(1));
+    }
 }
 
 #[test]

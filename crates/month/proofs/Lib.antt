@@ -1,4 +1,5 @@
 pub mod OneWindow
+pub mod Spans
 pub mod AllWindows
 pub mod Chain
 pub mod Sizes

@@ -1,7 +1,7 @@
 -- What an accepted file's sections say of the month that the file is read as: for the crates above, which know the file and its sections alone.
 use mathlib.Core.Bool.{true, _&&_}
 use mathlib.Core.List.{List, []}
-use mathlib.Core.Path.{_≡_, refl, sym, _∙_, ap, ap₂}
+use mathlib.Core.Path.{_≡_, sym, _∙_, ap, ap₂}
 use Prim.Native.Nat.{ℕ, _<_, _%_}
 use native.Mathlib.Omega.{arith}
 use borrow.Author.Tests.{eqb-true}
@@ -19,7 +19,7 @@ use Rattle.rules.specs.Gln.{allDigits, weightedSum, validGln}
 use Rattle.rules.specs.Limits.{glnDigits}
 use Rattle.rules.specs.Month.{monthRead, monthOf, estimatedHours, flowsAt, partyAt, priceAt, readingAt, shareOf}
 use Rattle.rules.specs.MonthFile.{MonthFile, H, P, readMonth}
-use Rattle.rules.specs.Refusals.{Answer, given}
+use Rattle.rules.specs.Refusals.{given}
 use Rattle.rules.specs.Statement.{headingText, headingLine}
 use Rattle.rules.proofs.Whole.{Whole, what-is-read-is-whole, every-at, PartyRight, both-pass}
 

@@ -1,5 +1,3 @@
-pub mod Stepping
-pub mod Exits
 pub mod Walking
 pub mod Readers
 pub mod AcceptedFile

@@ -1,11 +1,9 @@
 -- No second result fits what the crate promises.
 use mathlib.Core.List.{List}
-use mathlib.Core.Path.{_≡_, refl, sym, _∙_, ap}
+use mathlib.Core.Path.{_≡_, sym, _∙_, ap}
 use Prim.Native.Nat.{ℕ}
-use native.Mathlib.Omega.{arith}
 use lib.IntN.{ℤ}
 use Rattle.answer.specs.Said.{named}
-use Rattle.answer.specs.declared.Refusal.{Refusal}
 use Rattle.answer.proofs.Said.{named-once}
 use Rattle.record.specs.Record.{flowsOf, readingOf}
 use Rattle.record.specs.declared.Flows as CFlows
@@ -20,7 +18,6 @@ use Rattle.month_file.proofs.Readers.{its-month}
 use Rattle.rules.specs.Flows as R
 use Rattle.rules.specs.MonthFile.{readMonth}
 use Rattle.rules.specs.Record as RR
-use Rattle.rules.specs.Refusals.{Answer, given, refusal}
 
 told-once : (a b : MonthRead) → told a ≡ told b → a ≡ b
 told-once (Accepted s) (Accepted t) e = cc

@@ -1,28 +1,27 @@
 -- The walk through a whole file: what is left of it says what the whole says.
-use mathlib.Core.Bool.{Bool, true, false, cond, _||_}
+use mathlib.Core.Bool.{false, cond}
 use mathlib.Core.List.{List, [], _∷_}
 use mathlib.Core.Path.{_≡_, refl, sym, _∙_, ap, ap₂, subst}
-use Prim.Native.Nat.{ℕ, zero, suc, _+_, _-_, _*_, _≤_, _<_, zero-le}
+use Prim.Native.Nat.{ℕ, zero, suc, _+_, _-_, _≤_, _<_, zero-le}
 use native.Mathlib.Nat.{sub-zero, not-suc-le-zero}
 use native.Mathlib.Numerals.{add-one}
 use native.Mathlib.Omega.{arith}
 use borrow.Author.Tests.{le-leb, lt-leb}
-use lib.Dec.{leb}
 use lib.ListN.{length, take, drop, length-drop, drop-of-length-le}
 use lib.Seq.{drop-drop, take-all}
 use Rattle.answer.specs.Said.{named}
 use Rattle.answer.specs.declared.Refusal.{Refusal}
-use Rattle.answer.specs.declared.Refusal.the-variants.{FileFault}
-use Rattle.month_file.specs.declared.Walk.{Walk}
-use Rattle.month_file.specs.declared.Step.{Step}
-use Rattle.month_file.specs.declared.Step.the-variants as S
+use Rattle.month_walk.specs.declared.Walk.{Walk}
+use Rattle.month_walk.specs.declared.Step.{Step}
+use Rattle.month_walk.specs.declared.Step.the-variants as S
 use Rattle.month_file.specs.declared.Sections.{Sections}
-use Rattle.month_file.specs.Walk.{startOf, Counted, Few, Stands, Stepped, Steppable, StepMeans, StepMoves, sectionsIn, sectionsOf, sectionsFor, readAnswer}
+use Rattle.month_walk.specs.Walk.{startOf, Counted, Few, Stands, Stepped, Steppable}
+use Rattle.month_file.specs.Walk.{sectionsIn, sectionsOf, sectionsFor, readAnswer}
 use Rattle.rules.specs.Limits.{longestFile}
 use Rattle.rules.specs.MonthFile.{MonthFile, nothingYet, risesAfter, recordChecks, isEnd, closed, onward, readOn, readMonth}
 use Rattle.rules.specs.MonthFile as F
 use Rattle.rules.specs.Record as R
-use Rattle.rules.specs.Refusals.{fileFault, Verdict, accepted, refused, Answer, given, refusal, first}
+use Rattle.rules.specs.Refusals.{fileFault, accepted, given, refusal, first}
 use Rattle.rules.specs.Words.{within, at}
 
 pub record Walking (file : List ℕ) (w : Walk) (place : ℕ) : Type 0 where

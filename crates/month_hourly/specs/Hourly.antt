@@ -2,12 +2,11 @@
 -- the first refusal.
 use mathlib.Core.List.{List}
 use mathlib.Core.Path.{_≡_}
-use Prim.Native.Nat.{ℕ, suc, _-_, _≤_, _<_}
+use Prim.Native.Nat.{ℕ, _-_, _≤_, _<_}
 use lib.IntN.{ℤ, pos}
 use lib.ListN.{length}
 use Rattle.answer.specs.Said.{said}
 use Rattle.apportion.specs.Filled.{Filled}
-use Rattle.month.specs.Windows.{windowPlaces}
 use Rattle.month_file.specs.Fields.{Accepted}
 use Rattle.month_file.specs.declared.Sections.{Sections}
 use Rattle.month_hourly.specs.declared.Hourly as D
@@ -28,12 +27,6 @@ pub record HourlyAsked (file : List ℕ) (s : Sections) (fixed refixed curveNumb
   pub curve-size : curveNumbers ≡ s .heading .hours
   pub distributed-size : distributed ≡ s .heading .hours
   pub periodised-size : periodised ≡ s .heading .hours
-
--- with a place lent besides for each thing that is made on the way
-pub record MakingLent (s : Sections) (shares beginnings window : ℕ) : Type 0 where
-  pub shares-size : shares ≡ s .heading .parties
-  pub beginnings-size : beginnings ≡ suc (s .heading .hours)
-  pub window-size : window ≡ windowPlaces
 
 -- THE NUMBERS OF A MONTH that no check refuses
 pub record HourlyMade (m : MonthFile) (r : D.Hourly) (fixed refixed curveNumbers : List ℕ) (distributed : List ℤ) (periodised : List ℕ) : Type 0 where

@@ -14,11 +14,11 @@ use Rattle.month_file.specs.Fields.{Accepted}
 use Rattle.month_file.specs.declared.Sections.{Sections}
 use Rattle.month_file.proofs.AcceptedFile.{read-as, hours-are, parties-are}
 use Rattle.month_run.specs.Run.{inMonth, lentRight, askedVerdict, runVerdict, Promised}
-use Rattle.month_run.specs.Running.{RunKnown, RunLent, RunIs}
+use Rattle.month_run_hours.specs.Running.{RunLent, RunIs}
 use Rattle.month_run.proofs.Verdicts.{run-inside, lengths}
-use Rattle.rules.specs.Month.{monthOf, verdictOn, fileVerdict}
+use Rattle.rules.specs.Month.{monthOf, monthVerdict, verdictOn, fileVerdict}
 use Rattle.rules.specs.MonthFile.{H, P}
-use Rattle.rules.specs.Refusals.{outOfRange, wrongLength, Verdict, refused, unless, andThen, afterwards}
+use Rattle.rules.specs.Refusals.{outOfRange, wrongLength, Verdict, accepted, refused, unless, andThen, afterwards}
 use Rattle.rules.proofs.Refusals.{both-accept, unless-exactly}
 
 module _ (file : List ℕ) (start hours : ℕ) (d : List ℤ) (p : List ℕ) (x l : List ℤ) where
@@ -37,10 +37,7 @@ module _ (file : List ℕ) (start hours : ℕ) (d : List ℤ) (p : List ℕ) (x 
   refused-file {r} {v} {place} e is =
       refused-call e (ap said e ∙ sym (ap (λ (u : Verdict). andThen u asked) is))
 
-module _ {file : List ℕ} {s : Sections} {applied numbers begun : List ℕ} (known : RunKnown file s applied numbers begun) where
-  ok : Accepted file s
-  ok = known .month .accepted
-
+module _ {file : List ℕ} {s : Sections} (ok : Accepted file s) (none : monthVerdict (monthOf file) ≡ accepted) where
   -- the month is not refused, so what is asked of it decides
   module _ (start hours d p x l : ℕ) (right : Answer) (judged : said right ≡ askedVerdict (s .heading .hours) (s .heading .parties) start hours d p x l) where
     run-verdict : said right ≡ runVerdict file start hours d p x l
@@ -49,7 +46,7 @@ module _ {file : List ℕ} {s : Sections} {applied numbers begun : List ℕ} (kn
         judged
         ∙ sym
         (ap (λ (u : Verdict). andThen u (askedVerdict (H (monthOf file)) (P (monthOf file)) start hours d p x l))
-        (ap verdictOn (read-as file s ok) ∙ known .none-refuses)
+        (ap verdictOn (read-as file s ok) ∙ none)
         ∙ ap₂ (λ (h n : ℕ). askedVerdict h n start hours d p x l) (sym (hours-are file s ok)) (sym (parties-are file s ok)))
 
     module _ (passed : right ≡ Done) where

@@ -1,68 +1,31 @@
--- A month that no check refuses: what was made of it before its hours is what the windows of a run are made of, and its carries are handed on to the run.
+-- A month that no check refuses: what was made of it before its hours is what the windows of a run are made of.
 use mathlib.Core.Bool.{Bool, not}
 use mathlib.Core.List.{List}
-use mathlib.Core.Path.{_≡_, sym, _∙_, ap, subst}
-use Prim.Native.Nat.{ℕ, _≤_, _<_}
-use native.Mathlib.Omega.{arith}
+use mathlib.Core.Path.{_≡_, sym, _∙_, ap}
+use Prim.Native.Nat.{ℕ}
 use lib.Dec.{eqb}
-use lib.ListN.{length}
 use Rattle.answer.specs.Said.{said}
 use Rattle.answer.specs.declared.Answer.the-variants.{Done}
-use Rattle.apportion.specs.Filled.{Filled}
-use Rattle.apportion.specs.declared.Carries.{Carries}
-use Rattle.apportion.proofs.Arrays.{filled-as}
 use Rattle.month.specs.Outcomes.{OutcomeIs}
 use Rattle.month.specs.Windows.{Beginning}
 use Rattle.month.specs.declared.Outcome.{Outcome}
 use Rattle.month.proofs.Chain as C
-use Rattle.month_checks.specs.Checks.{Making, MadeIs}
+use Rattle.month_checks.specs.Checks.{MadeIs}
 use Rattle.month_checks.specs.declared.Made.{Made}
 use Rattle.month_file.specs.Fields.{Accepted}
 use Rattle.month_file.specs.declared.Sections.{Sections}
-use Rattle.month_hours.proofs.Bounds.{few-hours}
-use Rattle.month_run.specs.Running.{Carried, Steppable, Stepped, RunKnown}
+use Rattle.month_run_hours.specs.Running.{RunKnown}
 use Rattle.residual.specs.Applied.{appliedOf}
-use Rattle.rules.specs.Month.{monthOf, shareOf, appliedWh, monthVerdict}
-use Rattle.rules.specs.MonthFile.{MonthFile, H, P}
+use Rattle.rules.specs.Month.{monthOf, monthVerdict}
+use Rattle.rules.specs.MonthFile.{MonthFile}
 use Rattle.rules.specs.Refusals.{accepted}
-use Rattle.rules.specs.Words.{sum, at, figures}
-use Rattle.rules.proofs.Loops.{figures-length, figures-at}
-use Rattle.rules.proofs.Month.{applied-in-range}
-use Rattle.rules.proofs.Sums.{sum-cong}
 
-module _ {file : List ℕ} {s : Sections} (ok : Accepted file s) {made : Made} {fixed refixed numbers begun : List ℕ} (is : MadeIs (monthOf file) made fixed refixed numbers begun) {outcome : Outcome} (told : OutcomeIs (monthOf file) outcome) (done : outcome .answer ≡ Done) where
-  none-refuses : monthVerdict (monthOf file) ≡ accepted
-  none-refuses = sym (told .verdict) ∙ ap said done
+pub none-refuses : {m : MonthFile} {outcome : Outcome} → OutcomeIs m outcome → outcome .answer ≡ Done → monthVerdict m ≡ accepted
+none-refuses told done = sym (told .verdict) ∙ ap said done
 
-  all : Making (monthOf file) made fixed refixed numbers begun
-  all = C.all-made is none-refuses
-
+module _ {file : List ℕ} {s : Sections} (ok : Accepted file s) {made : Made} {fixed refixed numbers begun : List ℕ} (is : MadeIs (monthOf file) made fixed refixed numbers begun) (none : monthVerdict (monthOf file) ≡ accepted) where
   pub run-known : {has : Bool} → has ≡ not (eqb (s .refixed) 0) → {applied : List ℕ} → applied ≡ appliedOf fixed refixed has → RunKnown file s applied numbers begun
-  run-known by e = record { month = C.month-known file s ok all by e; none-refuses = none-refuses }
+  run-known by e = record { month = C.month-known file s ok (C.all-made is none) by e; none-refuses = none }
 
   pub begins : Beginning file (made .carries)
-  begins = C.beginning file s ok all
-
-module _ {file : List ℕ} {s : Sections} {applied numbers begun : List ℕ} (known : RunKnown file s applied numbers begun) {c : Carries} (begins : Beginning file c) {start : ℕ} (inside : start ≤ H (monthOf file)) where
-  abbrev m : MonthFile
-  m = monthOf file
-
-  applied-at : (t : ℕ) → t < H m → at applied t ≡ appliedWh m t
-  unfolding at
-  applied-at t b =
-      ap (λ (l : List ℕ). at l t) (known .month .applied-is) ∙ figures-at (H m) (appliedWh m) t 0 b
-
-  pub steppable : Steppable c applied start
-  steppable =
-      record { good = begins .started .good; none-yet = begins .started .sum; there = omega (arith, inside, ap length (known .month .applied-is), figures-length (H m) (appliedWh m)); short = omega (arith, inside, few-hours m (known .month .judged)); fit = λ u b. omega (arith, applied-at u (omega (arith, inside)), applied-in-range m (known .month .judged) u (omega (arith, inside))) }
-
-  shares-many : length (figures (P m) (shareOf m)) ≡ P m
-  shares-many = figures-length (P m) (shareOf m)
-
-  share-at : (i : ℕ) → i < P m → at (figures (P m) (shareOf m)) i ≡ shareOf m i
-  unfolding at
-  share-at i b = figures-at (P m) (shareOf m) i 0 b
-
-  pub carried : {r : Carries} → Stepped c applied start r → Carried m start r
-  carried {r} taken =
-      record { good = taken .good; parties = taken .parties ∙ begins .started .parties ∙ shares-many; share = subst (λ (l : List ℕ). Filled 0 (shareOf m) (P m) l) (sym (taken .share)) (filled-as (subst (λ (n : ℕ). Filled 0 (at (figures (P m) (shareOf m))) n (c .share)) shares-many (begins .started .share)) share-at); residuals = taken .residuals-sum ∙ sum-cong start (λ u b. applied-at u (omega (arith, inside))) }
+  begins = C.beginning file s ok (C.all-made is none)

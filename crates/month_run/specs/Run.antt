@@ -3,30 +3,17 @@
 use mathlib.Core.Bool.{Bool, _&&_}
 use mathlib.Core.List.{List}
 use mathlib.Core.Path.{_≡_}
-use Prim.Native.Nat.{ℕ, _+_, _*_, _/_, _%_}
+use Prim.Native.Nat.{ℕ, _+_, _*_}
 use lib.Dec.{eqb, leb}
 use lib.IntN.{ℤ}
 use lib.ListN.{length}
 use Rattle.answer.specs.Said.{said}
 use Rattle.answer.specs.declared.Answer.{Answer}
-use Rattle.rules.specs.Month.{monthOf, fileVerdict, distributed, periodised, difference, loss}
-use Rattle.rules.specs.MonthFile.{MonthFile, H, P}
+use Rattle.month_run_hours.specs.InRun.{distributedInRun, periodisedInRun, differenceInRun, lossInRun}
+use Rattle.rules.specs.Month.{monthOf, fileVerdict}
+use Rattle.rules.specs.MonthFile.{H, P}
 use Rattle.rules.specs.Refusals.{outOfRange, wrongLength, Verdict, unless, andThen, afterwards}
 use Rattle.rules.specs.Words.{figures}
-
--- What stands at the k-th place of a run from hour `start` on: of its hour k / P the party k % P.
-unfoldable pub distributedInRun : MonthFile → ℕ → ℕ → ℤ
-distributedInRun m start k = distributed m (start + k / P m) (k % P m)
-
-unfoldable pub periodisedInRun : MonthFile → ℕ → ℕ → ℕ
-periodisedInRun m start k = periodised m (start + k / P m) (k % P m)
-
-unfoldable pub differenceInRun : MonthFile → ℕ → ℕ → ℤ
-differenceInRun m start k = difference m (start + k / P m) (k % P m)
-
--- the loss of its k-th hour
-unfoldable pub lossInRun : MonthFile → ℕ → ℕ → ℤ
-lossInRun m start k = loss m (start + k)
 
 -- a run is of one hour or more, and lies in the month's hours
 unfoldable pub inMonth : ℕ → ℕ → ℕ → Bool

@@ -1,10 +1,8 @@
 pub mod Judging
 pub mod Bytes
 pub mod Complement
+pub mod BodyShort
 pub mod EveryEntry
 pub mod Decoding
 pub mod ReadOne
-pub mod Encoding
-pub mod WriteOne
-pub mod RoundTrip
 pub mod Unique

@@ -1,5 +1,4 @@
--- No second result fits: each promise of `record` fixes the answer, by a definition or by what it says in the words of the rules, and what a lent part
--- holds.
+-- No second result fits: each promise of `record` fixes the answer, by a definition or by what it says in the words of the rules.
 use mathlib.Core.List.{List}
 use mathlib.Core.Path.{_≡_, refl, sym, _∙_, ap}
 use Prim.Native.Nat.{ℕ}
@@ -7,37 +6,18 @@ use Rattle.answer.specs.Said.{said}
 use Rattle.answer.specs.declared.Answer.{Answer}
 use Rattle.answer.proofs.Said.{said-once, named-once}
 use Rattle.gln.specs.declared.Gln.{Gln}
-use Rattle.record.specs.Record.{recordOf, faultOf, told, wrote}
+use Rattle.record.specs.Record.{recordOf, faultOf, told}
 use Rattle.record.specs.declared.Flows as CFlows
 use Rattle.record.specs.declared.Read.{Read}
-use Rattle.record.specs.declared.Read.the-variants as Rd
-use Rattle.record.specs.declared.Read.the-variants.{Given}
+use Rattle.record.specs.declared.Read.the-variants.{Given, Refused}
 use Rattle.record.specs.declared.Record.{Record}
 use Rattle.record.specs.declared.Record.the-variants.{Heading, Party, FixedHour, Reading, Price, RefixedHour, End}
-use Rattle.record.specs.declared.Written.{Written}
-use Rattle.record.specs.declared.Written.the-variants.{Bytes, Refused}
 use Rattle.rules.specs.Flows as RFlows
 use Rattle.rules.specs.Record as RRecord
 use Rattle.rules.specs.Refusals as R
 
 pub fault-once : (hours parties place : ℕ) (r : Record) (g : Gln) (a b : Answer) → said a ≡ faultOf hours parties r g place → said b ≡ faultOf hours parties r g place → a ≡ b
 fault-once hours parties place r g a b p q = said-once a b (p ∙ sym q)
-
--- an answer of the writer can be read back
-wrote-once : (a b : Written) → wrote a ≡ wrote b → a ≡ b
-wrote-once (Bytes m) (Bytes n) e = cc
-wrote-once (Bytes m) (Refused s q) e = cc
-wrote-once (Refused r p) (Bytes n) e = cc
-wrote-once (Refused r p) (Refused s q) e =
-    let same : r ≡ s = named-once r s (cc) in
-    let place : p ≡ q = cc in
-    cc
-
-pub write-once : {told : R.Answer ℕ} (a b : Written) → wrote a ≡ told → wrote b ≡ told → a ≡ b
-write-once a b p q = wrote-once a b (p ∙ sym q)
-
-pub contents-once : {held : List ℕ} (a b : List ℕ) → a ≡ held → b ≡ held → a ≡ b
-contents-once a b p q = p ∙ sym q
 
 -- the code's record can be read back from that of the rules
 abbrev flowsBack : RFlows.Flows → CFlows.Flows
@@ -66,9 +46,9 @@ decode-once gln a b p q = sym (record-back gln a) ∙ ap recordBack (p ∙ sym q
 
 told-once : (gln : List ℕ) (a b : Read) → told gln a ≡ told gln b → a ≡ b
 told-once gln (Given r) (Given s) e = let same : recordOf gln r ≡ recordOf gln s = cc in ap Given (decode-once gln r s same refl)
-told-once gln (Given r) (Rd.Refused x q) e = cc
-told-once gln (Rd.Refused x p) (Given s) e = cc
-told-once gln (Rd.Refused x p) (Rd.Refused y q) e =
+told-once gln (Given r) (Refused x q) e = cc
+told-once gln (Refused x p) (Given s) e = cc
+told-once gln (Refused x p) (Refused y q) e =
     let same : x ≡ y = named-once x y (cc) in
     let place : p ≡ q = cc in
     cc

@@ -3,7 +3,6 @@ use mathlib.Core.Bool.{Bool, true, false}
 use mathlib.Core.List.{List, [], _∷_}
 use mathlib.Core.Path.{_≡_}
 use Prim.Native.Nat.{ℕ, _+_, _≤_}
-use lib.Dec.{leb}
 use lib.ListN.{length, drop}
 use Rattle.answer.specs.Said.{named}
 use Rattle.gln.specs.Gln.{glnAnswer, glnPart}
@@ -16,12 +15,9 @@ use Rattle.record.specs.declared.Record.{Record}
 use Rattle.record.specs.declared.Record.the-variants.{Heading, Party, FixedHour, Reading, Price, RefixedHour, End}
 use Rattle.record.specs.declared.Read.{Read}
 use Rattle.record.specs.declared.Read.the-variants as R
-use Rattle.record.specs.declared.Written.{Written}
-use Rattle.record.specs.declared.Written.the-variants as W
 use Rattle.rules.specs.Flows as RFlows
-use Rattle.rules.specs.Limits.{mostHours, mostParties}
 use Rattle.rules.specs.Record as RRecord
-use Rattle.rules.specs.Refusals.{outOfRange, glnFault, spanFault, energyTooLarge, wrongLength, Verdict, accepted, Answer, given, refusal, unless, first}
+use Rattle.rules.specs.Refusals.{outOfRange, glnFault, spanFault, energyTooLarge, Verdict, Answer, given, refusal, unless, first}
 
 -- the fields of a heading, of an hour's flows and of a reading
 abbrev pub headingOf : CHeading.Heading → RRecord.Heading
@@ -44,16 +40,6 @@ recordOf gln (Reading r) = RRecord.reading (readingOf r)
 recordOf gln (Price hour p) = RRecord.price hour p
 recordOf gln (RefixedHour hour f) = RRecord.refixedHour hour (flowsOf f)
 recordOf gln (End count) = RRecord.end count
-
--- its kind byte
-abbrev pub kindOf : Record → ℕ
-kindOf (Heading h) = RRecord.headingKind
-kindOf (Party share) = RRecord.partyKind
-kindOf (FixedHour hour f) = RRecord.fixedHourKind
-kindOf (Reading r) = RRecord.readingKind
-kindOf (Price hour p) = RRecord.priceKind
-kindOf (RefixedHour hour f) = RRecord.refixedHourKind
-kindOf (End count) = RRecord.endKind
 
 -- "02 party: GLN 13 ASCII digits": the part after the kind byte, where a party record has its GLN
 unfoldable pub glnBytes : List ℕ → List ℕ
@@ -102,20 +88,7 @@ pub record Whole (bytes : List ℕ) : Type 0 where
   pub known-kind : RRecord.known (RRecord.kindAt bytes) ≡ true
   pub fits : 1 + RRecord.bodyLength (RRecord.kindAt bytes) ≤ length bytes
 
--- a record has no fault, and a part has room for it
-pub record Writable (gln : List ℕ) (r : Record) (out : List ℕ) : Type 0 where
-  pub sound : first (RRecord.fieldChecks mostHours mostParties (recordOf gln r) 0) ≡ accepted
-  pub room : length (RRecord.recordBytes (recordOf gln r)) ≤ length out
-
--- 16, "record writer: too short"
-unfoldable pub roomFor : RRecord.Record → List ℕ → Verdict
-roomFor r lent = unless (leb (length (RRecord.recordBytes r)) (length lent)) wrongLength 0
-
--- what reading and writing one record tell
+-- what reading one record tells
 abbrev pub told : List ℕ → Read → Answer RRecord.Record
 told gln (R.Given r) = given (recordOf gln r)
 told gln (R.Refused r place) = refusal (named r) place
-
-abbrev pub wrote : Written → Answer ℕ
-wrote (W.Bytes n) = given n
-wrote (W.Refused r place) = refusal (named r) place

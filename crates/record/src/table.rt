@@ -1,5 +1,5 @@
 // The body length at each kind byte (01 "The month file": "The body lengths, by kind, are these"), and 0 for an unknown kind.
-pub const BODY: [usize; 256] = [
+pub const BODY: [u8; 256] = [
     0,
     9,
     21,

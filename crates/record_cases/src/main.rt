@@ -7,7 +7,7 @@ use record::Heading;
 use record::Read;
 use record::Reading;
 use record::Record;
-use record::Written;
+use record_write::Written;
 
 const OUT: i32 = 1;
 
@@ -89,7 +89,7 @@ fn read_case(part: &[u8]) {
 fn write_case(r: Record, gln: &[u8]) {
     io::write_all(OUT, b"write ");
     let mut part = [0u8; 22];
-    let w = record::write(r, gln, &mut part);
+    let w = record_write::write(r, gln, &mut part);
     match w {
         Written::Bytes(n) => {
             io::print_decimal(OUT, n as u64);
@@ -104,7 +104,7 @@ fn write_case(r: Record, gln: &[u8]) {
 fn hour_case(r: Record) {
     io::write_all(OUT, b"write ");
     let mut part = [0u8; 36];
-    let w = record::write(r, b"", &mut part);
+    let w = record_write::write(r, b"", &mut part);
     match w {
         Written::Bytes(n) => {
             io::print_decimal(OUT, n as u64);

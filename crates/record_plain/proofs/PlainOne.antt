@@ -14,7 +14,7 @@ use Rattle.rules.specs.Record.{bodyLength, known, writeVerdict}
 use Rattle.rules.specs.Refusals.{unknownKind, outOfRange, Answer, refusal, unless, andThen, answer, afterwards}
 use Rattle.rules.specs.Words.{at}
 use Rattle.rules.proofs.RoundTrip.{both-true}
-use Rattle.record.proofs.WriteOne.{Promised}
+use Rattle.record_write.proofs.WriteOne.{Promised}
 
 -- 4 OF THE LIST
 module _ (kind : ℕ) (numbers : List ℤ) {n : ℕ} (count : n ≡ fieldCount kind) where

@@ -4,7 +4,7 @@ use record::Flows;
 use record::Heading;
 use record::Reading;
 use record::Record;
-use record::Written;
+use record_write::Written;
 ghost use mathlib.Core.Path.{_≡_};
 ghost use lib.Dec.{leb};
 ghost use lib.IntN.{pos, natAbs};
@@ -12,7 +12,8 @@ ghost use lib.Signed.{leZ};
 ghost use Prim.Native.Nat.{_≤_, _<_};
 ghost use lib.ListN.{length};
 ghost use Rattle.record_plain.specs.Plain.{fieldCount, signedPlace, signsFrom, plainRight, held, plainHeading, plainFlows, plainReading, plainRecord, plainVerdict};
-ghost use Rattle.record.specs.Record.{recordOf, wrote};
+ghost use Rattle.record.specs.Record.{recordOf};
+ghost use Rattle.record_write.specs.Writing.{wrote};
 ghost use Rattle.rules.specs.Record.{recordBytes, written};
 ghost use Rattle.rules.specs.Refusals.{afterwards, answer};
 
@@ -197,5 +198,5 @@ pub fn write_plain(kind: u64, numbers: &[i64], gln: &[u8], out: &mut [u8]) -> Wr
         return Written::Refused(Refusal::OutOfRange, 0);
     }
     let r = record_of(kind, numbers);
-    record::write(r, gln, out)
+    record_write::write(r, gln, out)
 }

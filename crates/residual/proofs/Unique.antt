@@ -14,23 +14,12 @@ use Rattle.residual.specs.Applied.{appliedOf}
 use Rattle.residual.specs.Hour.{judgement}
 use Rattle.rules.specs.Flows.{Judgement, figure, noFigure, judgedBy}
 use Rattle.rules.specs.Refusals.{Verdict, numberOf, first, afterwards}
-use Rattle.rules.specs.Services.{residualChecks, residualFigures, curveChecks, curveFigures}
+use Rattle.rules.specs.Services.{curveChecks, curveFigures}
 
 -- a verdict and what it leaves in a lent list fix the answer and the list
-fixed : {A : Type 0} (verdict : Verdict) (new old : List A) (a b : Answer) (out out′ : List A) → said a ≡ verdict → out ≡ afterwards (said a) new old → said b ≡ verdict → out′ ≡ afterwards (said b) new old → (a ≡ b) × (out ≡ out′)
+pub fixed : {A : Type 0} (verdict : Verdict) (new old : List A) (a b : Answer) (out out′ : List A) → said a ≡ verdict → out ≡ afterwards (said a) new old → said b ≡ verdict → out′ ≡ afterwards (said b) new old → (a ≡ b) × (out ≡ out′)
 fixed verdict new old a b out out′ s o s′ o′ =
     (said-once a b (s ∙ sym s′), o ∙ ap (λ (v : Verdict). afterwards v new old) (s ∙ sym s′) ∙ sym o′)
-
--- RESIDUAL
-pub residual-once :
-    (statuses : List ℕ) (nets : List ℤ) (productions hourlies flexes entry : List ℕ) (lent : ℕ) (a b : Answer) (out out′ : List ℕ)
-    → said a ≡ first (residualChecks statuses nets productions hourlies flexes lent)
-    → out ≡ afterwards (said a) (residualFigures statuses nets productions hourlies flexes) entry
-    → said b ≡ first (residualChecks statuses nets productions hourlies flexes lent)
-    → out′ ≡ afterwards (said b) (residualFigures statuses nets productions hourlies flexes) entry
-    → (a ≡ b) × (out ≡ out′)
-residual-once statuses nets productions hourlies flexes entry lent =
-    fixed (first (residualChecks statuses nets productions hourlies flexes lent)) (residualFigures statuses nets productions hourlies flexes) entry
 
 -- CURVE
 pub curve-once :

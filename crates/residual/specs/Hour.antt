@@ -1,15 +1,11 @@
 -- What the code decides of one hour in the words of the rules: for each case the paper's figure or its refusal ("each 7, 8, 9").
-use mathlib.Core.List.{List}
-use Prim.Native.Nat.{ℕ, _≤_, _<_}
+use Prim.Native.Nat.{ℕ, _≤_}
 use lib.IntN.{ℤ, natAbs}
-use lib.ListN.{length}
 use Rattle.residual.specs.declared.Hour.{Hour}
 use Rattle.residual.specs.declared.Hour.the-variants.{Figure, Missing, Negative, TooLarge}
 use Rattle.rules.specs.Flows.{Flows, Judgement, figure, noFigure}
 use Rattle.rules.specs.Limits.{greatestFlow}
 use Rattle.rules.specs.Refusals.{missingHour, residualNegative, residualTooLarge}
-use Rattle.rules.specs.Services.{atℤ}
-use Rattle.rules.specs.Words.{at}
 
 abbrev pub judgement : Hour → Judgement
 judgement (Figure wh) = figure wh
@@ -28,11 +24,3 @@ pub record WithinLimits (net : ℤ) (production hourly flex : ℕ) : Type 0 wher
   pub production-within : production ≤ greatestFlow
   pub hourly-within : hourly ≤ greatestFlow
   pub flex-within : flex ≤ greatestFlow
-
--- an hour of four series whose flows are within their limits
-pub record WithinLimitsAt (nets : List ℤ) (productions hourlies flexes : List ℕ) (t : ℕ) : Type 0 where
-  pub of-nets : t < length nets
-  pub of-productions : t < length productions
-  pub of-hourlies : t < length hourlies
-  pub of-flexes : t < length flexes
-  pub limits : WithinLimits (atℤ nets t) (at productions t) (at hourlies t) (at flexes t)

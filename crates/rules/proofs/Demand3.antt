@@ -2,19 +2,19 @@
 -- So a running sum is the exact share rounded down or up; an hour's figures, being growths, add up to the hour's residual; over a run two such
 -- roundings meet; and of two shares the larger has the larger floor or, the floors being equal, the larger remainder.
 use mathlib.Core.Logic.{_⊎_, inl, inr, ⊎-elim}
-use mathlib.Core.Path.{_≡_, refl, sym, _∙_, ap, ap₂}
-use Prim.Native.Nat.{ℕ, zero, suc, _+_, _-_, _*_, _/_, _%_, _≤_, _<_}
+use mathlib.Core.Path.{_≡_, sym, _∙_, ap, ap₂}
+use Prim.Native.Nat.{ℕ, suc, _+_, _-_, _*_, _/_, _≤_, _<_}
 use native.Mathlib.Nat.{le-trans, div-add-mod', mod-lt, le-of-mul-le-mul-right, lt-of-mul-lt-mul-right, le-of-lt, eq-zero-or-pos, eq-or-lt-of-le, mul-le-mul-right, mul-add, mul-zero, div-eq-of-lt-le, add-zero, zero-add, zero-mul}
 use native.Mathlib.Omega.{arith}
 use lib.Dec.{le→leb}
-use lib.IntN.{ℤ, pos, negsuc, natAbs, _+ℤ_, _-ℤ_, _*ℤ_}
+use lib.IntN.{pos, negsuc, _-ℤ_}
 use lib.Signed.{_≤ℤ_}
 use Rattle.rules.specs.Demands.{sumOver, sumSinceFirst, exactShare, down, up, distance, Demand3}
 use Rattle.rules.specs.Distributed.{roundedDown, remainder, leftOver, oneEach, runningSum, runningAfter, distributedFigure}
 use Rattle.rules.specs.Flows.{W}
 use Rattle.rules.specs.Words.{sum, sumℤ}
 use Rattle.rules.proofs.Integers.{minus-cong, minus-near, minus-at-least, minus-at-most, minus-scale, minus-minus, pos-minus-zero, growths-add-up, sumℤ-minus}
-use Rattle.rules.proofs.LargestRemainder.{less, less-cases, ones, one-at-most, left-is-given-out, none-without-remainder, earlier-gets-too, before, before-is, less-one, less-at-most-one}
+use Rattle.rules.proofs.LargestRemainder.{less, less-cases, ones, one-at-most, left-is-given-out, none-without-remainder, earlier-gets-too, before-is, less-one, less-at-most-one}
 use Rattle.rules.proofs.Sums.{sum-add, sum-scale, sum-cong, sum-le, sum-member, sum-split}
 
 module _ (n : ℕ) (share : ℕ → ℕ) (some : 0 < W n share) where

@@ -1,6 +1,5 @@
 -- Laws of the flows: what "rounded down" says of a curve number.
-use mathlib.Core.Path.{_≡_}
-use Prim.Native.Nat.{ℕ, _+_, _*_, _/_, _≤_, _<_}
+use Prim.Native.Nat.{ℕ, _+_, _*_, _≤_, _<_}
 use native.Mathlib.Nat.{div-mul-le-self, lt-div-mul-add}
 use Rattle.rules.specs.Flows.{curveNumber}
 

@@ -1,14 +1,14 @@
 -- The laws of the reviewer's report: what a distance is by the carries; that it is less than a Wh; that the smallest and the largest are one of the distances,
 -- and none lies outside them.
 use mathlib.Core.Bool.{Bool, true, false, not, cond}
-use mathlib.Core.Logic.{_⊎_, inl, inr, ⊎-elim}
-use mathlib.Core.Path.{_≡_, refl, sym, _∙_, ap, ap₂, subst}
+use mathlib.Core.Logic.{_⊎_, ⊎-elim}
+use mathlib.Core.Path.{_≡_, refl, sym, _∙_, ap, subst}
 use Prim.Native.Nat.{ℕ, zero, suc, _+_, _-_, _*_, _≤_, _<_, zero-le}
-use native.Mathlib.Nat.{le-trans, le-of-lt, le-refl, le-antisymm, eq-or-lt-of-le, le-of-suc-le-suc, add-zero, zero-add, add-suc}
+use native.Mathlib.Nat.{le-trans, le-of-lt, le-refl, le-antisymm, eq-or-lt-of-le, le-of-suc-le-suc, zero-add}
 use native.Mathlib.Omega.{arith}
 use lib.Dec.{T, leb→le, le→leb, ltb→lt}
 use lib.IntN.{ℤ, pos, negsuc, natAbs, _-ℤ_, _*ℤ_}
-use lib.Signed.{ltZ, leZ, _≤ℤ_, _<ℤ_, ltZ-yes, ltZ-no, ≤ℤ-refl}
+use lib.Signed.{ltZ, leZ, _≤ℤ_, ltZ-no, ≤ℤ-refl}
 use Rattle.rules.specs.Demands.{sumOver, sumSinceFirst, exactShare}
 use Rattle.rules.specs.Distributed.{remainder, leftOver, oneEach, roundedDown, runningSum, runningAfter, distributedFigure}
 use Rattle.rules.specs.Flows.{W}

@@ -1,14 +1,13 @@
 -- Laws of whole numbers of either sign that the library has not: differences of two naturals, one law for all; the product over a sum; sums.
-use mathlib.Core.Bool.{Bool, true, false, cond}
-use mathlib.Core.Logic.{⊎-elim, _⊎_}
+use mathlib.Core.Bool.{Bool, true, false}
 use mathlib.Core.Path.{_≡_, refl, sym, _∙_, ap, ap₂}
 use Prim.Native.Nat.{ℕ, zero, suc, _+_, _-_, _*_, _≤_, _<_, zero-le}
-use native.Mathlib.Nat.{add-zero, add-suc, zero-add}
+use native.Mathlib.Nat.{add-zero, add-suc}
 use native.Mathlib.Omega.{arith}
-use borrow.Author.Tests.{ltb-true, ltb-false, lt-ltb, le-ltb, eq-eqb, ne-eqb}
-use lib.Dec.{ltb, eqb, le→leb}
+use borrow.Author.Tests.{ltb-true, ltb-false, lt-ltb, le-ltb}
+use lib.Dec.{ltb, le→leb}
 use lib.Signed.{_≤ℤ_}
-use lib.IntN.{ℤ, pos, negsuc, negℤ, natAbs, subℕ, _+ℤ_, _-ℤ_, _*ℤ_, +ℤ-assoc, +ℤ-comm, +ℤ-idl, +ℤ-idr, +ℤ-invr, +ℤ-invl, negℤ-+ℤ, negℤ-negℤ, *ℤ-comm, sucℤ-*ℤ, sucℤ, *ℤ-negsuc, zero-*ℤ, *ℤ-zero}
+use lib.IntN.{ℤ, pos, negsuc, negℤ, natAbs, subℕ, _+ℤ_, _-ℤ_, _*ℤ_, +ℤ-assoc, +ℤ-comm, +ℤ-idr, +ℤ-invr, negℤ-+ℤ, negℤ-negℤ, *ℤ-comm, sucℤ-*ℤ, *ℤ-negsuc, zero-*ℤ, *ℤ-zero}
 use Rattle.rules.specs.Words.{sum, sumℤ}
 
 -- (a + b) + (c + d) = (a + c) + (b + d)

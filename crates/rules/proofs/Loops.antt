@@ -2,13 +2,13 @@
 -- beginning is the figures so far (`Filling`). Each need of such a loop is one citation: `look-` or `fill-`, and `start`, `pass` or `next`, `stop`, `end`.
 use mathlib.Core.List.{List, [], _∷_, _++_}
 use mathlib.Core.Logic.{⊎-elim}
-use mathlib.Core.Path.{_≡_, refl, sym, _∙_, ap, subst}
+use mathlib.Core.Path.{_≡_, refl, sym, _∙_, ap}
 use Prim.Native.Nat.{ℕ, zero, suc, _+_, _-_, _≤_, _<_, zero-le}
-use native.Mathlib.Nat.{add-suc, add-zero, suc-add, zero-add, sub-zero, eq-or-lt-of-le, le-of-suc-le-suc, not-suc-le-zero, le-antisymm}
+use native.Mathlib.Nat.{add-suc, add-zero, suc-add, zero-add, sub-zero, eq-or-lt-of-le, le-of-suc-le-suc, not-suc-le-zero}
 use native.Mathlib.Numerals.{add-one}
 use native.Mathlib.Omega.{arith}
 use lib.ListN.{length, getD, take, set, length-append, length-set, List·getD-append}
-use lib.Seq.{take-suc-set, take-all, getD-append-seam, getD-at}
+use lib.Seq.{take-suc-set, take-all, getD-at}
 use Rattle.rules.specs.Refusals.{Refusal, Verdict, accepted, refused, andThen, first, inTurn}
 use Rattle.rules.specs.Words.{figures}
 use Rattle.rules.proofs.Refusals.{first-append, then-accepted, then-assoc}

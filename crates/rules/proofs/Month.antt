@@ -1,31 +1,31 @@
 -- What holds of every accepted month: each hour has its figure, the limits, demand 3, the zero sums, and that every figure fits 64 bits.
-use mathlib.Core.Bool.{Bool, true, false, cond, _||_}
+use mathlib.Core.Bool.{Bool, true, false, cond}
 use mathlib.Core.List.{List, [], _∷_}
-use mathlib.Core.Logic.{_⊎_, inl, inr, ⊎-elim}
+use mathlib.Core.Logic.{_⊎_, ⊎-elim}
 use mathlib.Core.Path.{_≡_, refl, sym, _∙_, ap, ap₂, subst}
-use Prim.Native.Nat.{ℕ, zero, suc, _+_, _-_, _*_, _^_, _≤_, _<_}
+use Prim.Native.Nat.{ℕ, zero, suc, _+_, _-_, _*_, _≤_, _<_}
 use native.Mathlib.Nat.{add-zero, zero-add, le-trans, le-of-suc-le-suc, mul-le-mul, mul-le-mul-right}
 use native.Mathlib.Omega.{arith}
-use borrow.Author.Tests.{leb-true, leb-false, eqb-true, eq-eqb, ne-eqb}
+use borrow.Author.Tests.{leb-true}
 use lib.Dec.{leb, eqb}
-use lib.IntN.{ℤ, pos, negsuc, negℤ, natAbs, _+ℤ_, _-ℤ_, _*ℤ_}
-use lib.ListN.{length, getD}
+use lib.IntN.{ℤ, pos, negsuc, natAbs, _+ℤ_, _-ℤ_}
+use lib.ListN.{length}
 use Rattle.rules.specs.Accepted.{NoneRefuses}
 use Rattle.rules.specs.Demands.{Demand3}
 use Rattle.rules.specs.Distributed.{distributedFigure, runningAfter}
-use Rattle.rules.specs.Flows.{Flows, Judgement, figure, noFigure, residual, judged, judgedBy, verdictOf, residualWh, appliedSeries, W}
-use Rattle.rules.specs.Limits.{greatestW, greatestResidual, greatestCurveNumber, greatestPeriodised, greatestPrice, mostHours}
-use Rattle.rules.specs.Month.{flowsAt, shareOf, monthW, fixedWh, appliedFlows, appliedWh, priceAt, periodised, allPeriodised, loss, distributed, difference, amount, monthDifference, monthAmount, monthDistributed, hourVerdict, curveVerdict, periodisedVerdict, monthChecks, monthVerdict, curve}
+use Rattle.rules.specs.Flows.{Flows, figure, noFigure, residual, judged, judgedBy, verdictOf, residualWh, appliedSeries, W}
+use Rattle.rules.specs.Limits.{greatestW, greatestResidual, greatestCurveNumber, greatestPeriodised, greatestPrice}
+use Rattle.rules.specs.Month.{flowsAt, shareOf, monthW, appliedFlows, appliedWh, priceAt, periodised, allPeriodised, loss, distributed, difference, amount, monthDifference, monthAmount, monthDistributed, hourVerdict, curveVerdict, periodisedVerdict, monthChecks, monthVerdict, curve}
 use Rattle.rules.specs.MonthFile.{MonthFile, H, P}
 use Rattle.rules.specs.Reconciliation.{gridLoss, lossOf, differenceOf, amountMillionths}
-use Rattle.rules.specs.Refusals.{Refusal, wOutOfRange, residualTooLarge, Verdict, accepted, refused, unless, first, inTurn}
-use Rattle.rules.specs.Words.{sum, sumℤ, within, withinℤ}
+use Rattle.rules.specs.Refusals.{wOutOfRange, residualTooLarge, accepted, unless, inTurn}
+use Rattle.rules.specs.Words.{sum, sumℤ, within}
 use Rattle.rules.proofs.Demand3.{demand-3, growth-in-range}
 use Rattle.rules.proofs.Integers.{minus-add, minus-near, opposite, pos-minus-zero, size-of-product, size-of-sums, sumℤ-cong, sumℤ-swap, sumℤ-zero, sumℤ-pos}
 use Rattle.rules.proofs.Reconciliation.{differences-add-up, amounts-add-up}
 use Rattle.rules.proofs.Refusals.{accepted-exactly, in-turn-exactly, unless-exactly, refused-not-accepted}
 use Rattle.rules.proofs.Sums.{sum-member}
-use Rattle.rules.proofs.Whole.{Whole, within-size, HeadingFacts, heading-facts, Every, every-at, within-is, PriceRight, both-pass}
+use Rattle.rules.proofs.Whole.{Whole, within-size, HeadingFacts, heading-facts, every-at, within-is, PriceRight}
 
 -- An hour that is judged to have a figure: it is not missing, and its residual is that figure, within the limit.
 pub record HasFigure (f : Flows) : Type 0 where

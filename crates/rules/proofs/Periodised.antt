@@ -1,12 +1,11 @@
 -- A reading's figures are the growths of E x (weights so far) / S rounded down, which never falls: so they add up, to E where S is positive.
 use mathlib.Core.Logic.{_⊎_, ⊎-elim}
-use mathlib.Core.Path.{_≡_, refl, sym, _∙_, ap}
+use mathlib.Core.Path.{_≡_, sym, _∙_, ap}
 use Prim.Native.Nat.{ℕ, zero, suc, _+_, _-_, _*_, _/_, _%_, _≤_, _<_}
-use native.Mathlib.Nat.{le-trans, le-refl, zero-mul, zero-div, div-zero, mul-div-cancel, mul-le-mul-left, div-mul-le-self, le-div-iff-mul-le, eq-zero-or-pos, le-of-eq, mul-zero, add-mul, div-add-mod', mul-add-div-right}
+use native.Mathlib.Nat.{le-trans, le-refl, zero-mul, zero-div, div-zero, mul-div-cancel, mul-le-mul-left, div-mul-le-self, le-div-iff-mul-le, eq-zero-or-pos, mul-zero, div-add-mod', mul-add-div-right}
 use native.Mathlib.Omega.{arith}
 use Rattle.rules.specs.Periodised.{sumSoFar, periodisedFigure}
 use Rattle.rules.specs.Words.{sum}
-use Rattle.rules.proofs.Sums.{sum-split}
 
 -- a quotient never falls as the number divided grows
 pub quotient-rises : (s : ℕ) {a b : ℕ} → a ≤ b → a / s ≤ b / s

@@ -4,7 +4,7 @@ use mathlib.Core.List.{List, [], _∷_}
 use Prim.Native.Nat.{ℕ, zero, suc, _*_, _/_}
 use lib.Dec.{eqb, leb}
 use lib.IntN.{ℤ, pos, negsuc, natAbs, _+ℤ_, _-ℤ_}
-use Rattle.rules.specs.Limits.{missing, estimated, greatestFlow, greatestResidual}
+use Rattle.rules.specs.Limits.{estimated, greatestFlow, greatestResidual}
 use Rattle.rules.specs.Refusals.{Refusal, missingHour, residualNegative, residualTooLarge, Verdict, accepted, refused}
 use Rattle.rules.specs.Words.{sum, withinℤ}
 

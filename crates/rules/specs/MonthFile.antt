@@ -4,7 +4,7 @@ use mathlib.Core.List.{List, [], _∷_, _++_}
 use Prim.Native.Nat.{ℕ, zero, suc, _+_}
 use lib.Dec.{eqb, leb, ltb}
 use lib.IntN.{ℤ}
-use lib.ListN.{length, getD, drop}
+use lib.ListN.{length, drop}
 use Rattle.rules.specs.Flows.{Flows}
 use Rattle.rules.specs.Gln.{rises}
 use Rattle.rules.specs.Limits.{longestFile}

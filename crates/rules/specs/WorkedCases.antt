@@ -1,5 +1,5 @@
 -- "The cases marked P stand together under a single proved statement about the rules" (01, "Figures to check against"). Proved in proofs/WorkedCases.
-use mathlib.Core.List.{List, [], _∷_}
+use mathlib.Core.List.{[], _∷_}
 use mathlib.Core.Path.{_≡_}
 use Prim.Native.Nat.{ℕ}
 use lib.IntN.{ℤ, pos, negsuc}

@@ -1,6 +1,6 @@
--- Whole month files and the statement that the rules give for each, from the file's bytes to the printed text: input S1 of 01 with its five lines, a
--- small month whose figures can be followed by hand, and each refusal 1 to 15 once, two faults at a time where an order shows. Proved in
--- proofs/WorkedMonths, by computing the definitions.
+-- Whole month files and what the rules give for each, from the file's bytes to the printed text: input S1 of 01 with its five lines, and the case D3 as a
+-- month, both with the reviewer's report; a small month whose figures can be followed by hand; and each refusal 1 to 15 once, two faults at a time where an
+-- order shows. Proved in proofs/WorkedMonths, by computing the definitions.
 use mathlib.Core.List.{List, [], _∷_, _++_}
 use mathlib.Core.Path.{_≡_}
 use Prim.Native.Nat.{ℕ}
@@ -8,6 +8,7 @@ use Prim.Native.String.{String}
 use lib.IntN.{ℤ, pos, negsuc}
 use lib.ListN.{take}
 use Rattle.rules.specs.Flows.{Flows}
+use Rattle.rules.specs.HoursReport.{hoursReport}
 use Rattle.rules.specs.Limits.{missing, measured, estimated}
 use Rattle.rules.specs.Record.{Record, heading, party, fixedHour, reading, price, refixedHour, end, recordBytes}
 use Rattle.rules.specs.Statement.{statement}
@@ -61,6 +62,24 @@ S1 =
     ∷ end 22
     ∷ [])
 
+-- The case D3 as a month: shares 6, 6 and 2, residuals 10 and 1, the second hour estimated. examples/README.md works it out by hand; the file is
+-- examples/d3.month.
+unfoldable pub D3 : List ℕ
+D3 =
+    fileOf
+    (headingOf 3 2016 6 2 3 1
+    ∷ partyOf "0000000000017" 6
+    ∷ partyOf "0000000000024" 6
+    ∷ partyOf "0000000000031" 2
+    ∷ fixedHour 0 (record { status = measured; net = pos 16; production = 3; hourly = 6; flex = 3 })
+    ∷ fixedHour 1 (record { status = estimated; net = negsuc 1; production = 8; hourly = 4; flex = 1 })
+    ∷ price 0 (pos 2000000)
+    ∷ price 1 (negsuc 1499999)
+    ∷ readingOf 0 0 2 6
+    ∷ readingOf 2 1 2 2
+    ∷ end 10
+    ∷ [])
+
 -- A month of two hours and two parties of equal shares; the second party's one reading runs over both hours. Its parts can be put in faulty.
 unfoldable pub begin : ℕ → ℕ → List Record
 begin share0 share1 =
@@ -95,12 +114,32 @@ pub record WorkedMonths : Type 0 where
       statement S1
       ≡ ascii
       "area 007 2016-04 hours 3 parties 3 estimated 0\n0000000000017 18900000 27600000 0 8700000 266850\n0000000000024 75600000 63100000 0 -12500000 -382800\n0000000000031 31500000 32500000 2800000 3800000 115950\ntotal 126000000 123200000 2800000 0 0\n"
+  -- the reviewer's report of the same month: every share divides evenly, so each running sum is the exact share
+  pub S1-report :
+      hoursReport S1
+      ≡ ascii
+      "area 007 2016-04 hours 3 parties 3 estimated 0\n0 measured measured 40000000 39000000 4000000 39000000 37900000 1100000\n1 measured measured 50000000 48000000 5000000 48000000 47400000 600000\n2 measured measured 40000000 39000000 4000000 39000000 37900000 1100000\n0000000000017 0/10000000 0/10000000\n0000000000024 0/10000000 0/10000000\n0000000000031 0/10000000 0/10000000\n"
+  pub D3-lines :
+      statement D3
+      ≡ ascii
+      "area 003 2016-06 hours 2 parties 3 estimated 1\n0000000000017 5 6 0 1 2\n0000000000024 5 0 3 -2 7\n0000000000031 1 2 0 1 -9\ntotal 11 8 3 0 0\n"
+  -- running sums 4, 4, 2 and then 5, 5, 1: the distances are -4, -4 and 8, then 4, 4 and -8 fourteenths of a Wh
+  pub D3-report :
+      hoursReport D3
+      ≡ ascii
+      "area 003 2016-06 hours 2 parties 3 estimated 1\n0 measured measured 10 10 714285 10 5 5\n1 estimated estimated 1 1 71428 1 3 -2\n0000000000017 -4/14 4/14\n0000000000024 -4/14 4/14\n0000000000031 -8/14 8/14\n"
+  pub report-refused : hoursReport [] ≡ ascii "refused 1 at 0\n"
   -- "The curve always comes from the fixed one": 1 and 3, so E = 4 falls 1 and 3 (by the refixed 2 and 2 it would fall 2 and 2). The second party has 1
   -- and 1 distributed, so its differences are 0 and 2. Applied hours with status 2: one, the refixed hour 1.
   pub curve-from-fixed :
       statement (small (supply measured (pos 1)) (supply measured (pos 3)) (supply measured (pos 2)) (supply estimated (pos 2)) 1 1 4)
       ≡ ascii
       "area 001 2020-01 hours 2 parties 2 estimated 1\n0000000000017 2 0 0 -2 -2\n0000000000024 2 4 0 2 2\ntotal 4 4 0 0 0\n"
+  -- the same month in the report: hour 1 measured at fixation and estimated at refixation
+  pub report-of-both-series :
+      hoursReport (small (supply measured (pos 1)) (supply measured (pos 3)) (supply measured (pos 2)) (supply estimated (pos 2)) 1 1 4)
+      ≡ ascii
+      "area 001 2020-01 hours 2 parties 2 estimated 1\n0 measured measured 1 2 500000 2 1 1\n1 measured estimated 3 2 1500000 2 3 -1\n0000000000017 0/2 0/2\n0000000000024 0/2 0/2\n"
   -- without refixed hours the fixed ones are applied; two readings of one party add up; the loss of either sign is the carrier's
   pub fixed-applied :
       statement (closing (readingOf 1 0 2 4 ∷ readingOf 1 1 2 2 ∷ end 9 ∷ []))

@@ -1,14 +1,14 @@
 -- The services alone, where orders and places show: 16 first, then 4 with its places, then each service's own; and one record read and written
 -- alone. Proved in proofs/WorkedServices, by computing the definitions.
-use mathlib.Core.List.{List, [], _∷_, _++_}
+use mathlib.Core.List.{List, [], _∷_}
 use mathlib.Core.Path.{_≡_}
 use Prim.Native.Nat.{ℕ}
 use lib.IntN.{ℤ, pos, negsuc}
 use lib.ListN.{replicate}
-use Rattle.rules.specs.Record.{Record, heading, party, fixedHour, reading, price, refixedHour, end, recordBytes, readAlone, writeVerdict, written}
-use Rattle.rules.specs.Refusals.{fileFault, unknownKind, outOfRange, glnFault, wOutOfRange, missingHour, residualNegative, residualTooLarge, curveTooLarge, spanFault, energyTooLarge, nothingToFollow, periodisedTooLarge, wrongLength, accepted, refused, given, refusal, first}
+use Rattle.rules.specs.Record.{fixedHour, price, end, recordBytes, readAlone, writeVerdict, written}
+use Rattle.rules.specs.Refusals.{fileFault, unknownKind, outOfRange, glnFault, wOutOfRange, missingHour, residualNegative, residualTooLarge, curveTooLarge, spanFault, energyTooLarge, periodisedTooLarge, wrongLength, accepted, refused, given, refusal, first}
 use Rattle.rules.specs.Services.{residualChecks, residualFigures, curveChecks, distributionChecks, periodisationChecks, reconciliationChecks, reconciliationLoss, reconciliationDifferences, reconciliationAmounts}
-use Rattle.rules.specs.WorkedMonths.{supply, partyOf, readingOf, headingOf}
+use Rattle.rules.specs.WorkedMonths.{supply, partyOf, readingOf}
 
 -- nothing in two hours
 unfoldable pub none : List ℕ

@@ -49,7 +49,7 @@ pub extern "C" fn settle_residual(
     ensures answer { λ r. ⌜ r ≡ coded (first (residualChecks (now (statuses .entry)) (now (nets .entry)) (now (productions .entry)) (now (hourlies .entry)) (now (flexes .entry)) (length (now (out .entry))))) ⌝ }
     ensures contents { λ _. ⌜ now (out .exit) ≡ afterwards (first (residualChecks (now (statuses .entry)) (now (nets .entry)) (now (productions .entry)) (now (hourlies .entry)) (now (flexes .entry)) (length (now (out .entry))))) (residualFigures (now (statuses .entry)) (now (nets .entry)) (now (productions .entry)) (now (hourlies .entry)) (now (flexes .entry))) (now (out .entry)) ⌝ }
 {
-    let answered = residual::residual(statuses, nets, productions, hourlies, flexes, out);
+    let answered = residual_series::residual(statuses, nets, productions, hourlies, flexes, out);
     code(answered)
 }
 

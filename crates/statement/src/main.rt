@@ -1,91 +1,22 @@
 // THE STATEMENT PROGRAM (01 "The statement program"): it reads one month file from standard input and prints its statement, or `refused N at P`.
 //
 // What is proved of it: it is safe and ends, given that each read and write returns; and the text that it makes for printing is the
-// statement of the bytes read, for a file that is too long the refusal 1 at 0. What no contract can say, since those of `libc::read` and `libc::write` speak of the count
-// of one call alone: that the bytes of the buffer are those of standard input, all of them, and that what is handed over arrives. tests/streams tries that on the
-// running program. A program has no exit status: a failure is told on standard error, with no answer or a part of one on standard output.
+// statement of the bytes read, for a file that is too long the refusal 1 at 0. That the bytes read are those of standard input, and that the text arrives, no
+// contract can say: see the head of `streams`.
 use answer::Refusal;
-use libc::STDERR_FILENO;
-use libc::STDIN_FILENO;
-use libc::STDOUT_FILENO;
 use statement_text::Stated;
-use text::Written;
+use streams::Input;
 ghost use lib.ListN.{length, take};
 ghost use mathlib.Core.Path.{_≡_};
 ghost use Prim.Native.Nat.{_≤_};
 ghost use Rattle.rules.specs.Refusals.{fileFault};
 ghost use Rattle.rules.specs.Statement.{refusalLine, statement};
 ghost use Rattle.statement.specs.Printed.{LinesWithin, refusalText, printed};
-ghost use Rattle.statement.specs.Reading.{PieceWithin, InputWithin};
 ghost use Rattle.statement_text.specs.Lines.{statementRoom};
 ghost use Rattle.text.specs.Text.{longestRefusalLine};
 
 // The most bytes of a statement.
 const ROOM: usize = statement_text::STATEMENT_ROOM;
-
-// What one read gives: bytes at the start of the part it was lent, the end of the input, or a failure.
-enum Piece {
-    Bytes(usize),
-    End,
-    Failed,
-}
-
-// What standard input gives: the whole of it in the buffer, more than the buffer holds, or a failure.
-enum Input {
-    Whole(usize),
-    TooLong,
-    Failed,
-}
-
-// One read into a part that is not empty. Only an answer of 0 is the end of the input; -1 is a failure for whatever reason, since `libc` does not show it. (A read
-// is interrupted only by a signal that the program handles, and it handles none.)
-fn read_piece(part: &mut [u8]) -> Piece
-    ensures { λ p. ⌜ PieceWithin p (length (now (part .exit))) ⌝ }
-{
-    let got = libc::read(STDIN_FILENO, part);
-    if 0 < got {
-        return Piece::Bytes(got as usize);
-    }
-    if got == 0 {
-        return Piece::End;
-    }
-    Piece::Failed
-}
-
-// After a full buffer: a byte more is an input that is too long.
-fn read_past(full: usize) -> Input
-    ensures { λ i. ⌜ InputWithin i full ⌝ }
-{
-    let mut more = [0u8; 1];
-    let piece = read_piece(&mut more);
-    match piece {
-        Piece::Bytes(_) => Input::TooLong,
-        Piece::End => Input::Whole(full),
-        Piece::Failed => Input::Failed,
-    }
-}
-
-// "Reads one month file from standard input.": piece by piece, however it arrives, until it ends or is too long.
-fn read_month(buffer: &mut [u8]) -> Input
-    ensures { λ i. ⌜ InputWithin i (length (now (buffer .exit))) ⌝ }
-{
-    let mut done: usize = 0;
-    while done < buffer.len() {
-        let piece = read_piece(&mut buffer[done..]);
-        match piece {
-            Piece::Bytes(n) => {
-                done += n;
-            }
-            Piece::End => {
-                return Input::Whole(done);
-            }
-            Piece::Failed => {
-                return Input::Failed;
-            }
-        }
-    }
-    read_past(done)
-}
 
 // The buffer for the statement.
 fn room() -> [u8; ROOM]
@@ -103,11 +34,7 @@ fn refusal_text(stated: Stated, out: &mut [u8]) -> usize
     let Stated::Refused(refusal, place) = stated else {
         return 0;
     };
-    let written = text::refusal_line(refusal, place, out);
-    let Written::Bytes(n) = written else {
-        return 0;
-    };
-    n
+    text::put_refusal(refusal, place, out)
 }
 
 // What is printed stands at the start of `out`: "On refusal it prints one line", and an accepted month's lines are there already.
@@ -141,17 +68,8 @@ fn too_long_text(out: &mut [u8]) -> usize
     answer_text(Stated::Refused(Refusal::FileFault, 0), out)
 }
 
-// Says a failure on standard error; where that fails too, there is nowhere left to say it.
-fn complain(message: &[u8]) {
-    io::write_all(STDERR_FILENO, message);
-}
-
-// Prints all of a text, however many writes it takes, and says the first that fails.
 fn print(text: &[u8]) {
-    let all = io::write_all(STDOUT_FILENO, text);
-    if !all {
-        complain(b"statement: standard output cannot be written\n");
-    }
+    streams::print(text, b"statement: standard output cannot be written\n");
 }
 
 // A file that was read whole: its statement, or its refusal.
@@ -169,10 +87,10 @@ fn print_too_long() {
 
 fn main() {
     let mut buffer = io::large_buffer();
-    let input = read_month(&mut buffer);
+    let input = streams::read_month(&mut buffer);
     match input {
         Input::Whole(n) => print_file(&buffer[0..n]),
         Input::TooLong => print_too_long(),
-        Input::Failed => complain(b"statement: standard input cannot be read\n"),
+        Input::Failed => streams::complain(b"statement: standard input cannot be read\n"),
     }
 }

@@ -1,4 +1,5 @@
 pub mod Puts
+pub mod Stands
 pub mod Digits
 pub mod Signs
 pub mod Lines

@@ -215,8 +215,8 @@ pub fn columns_line(
     put_results(out, results, loss_wh, difference_wh, ore)
 }
 
-// The refusal line at the start of a buffer that has room for the longest.
-fn put_refusal(refusal: Refusal, place: usize, out: &mut [u8]) -> usize
+// The refusal line at the start of a buffer that is known to have room for the longest.
+pub fn put_refusal(refusal: Refusal, place: usize, out: &mut [u8]) -> usize
     requires { ⌜ longestRefusalLine ≤ length (now out) ⌝ }
     ensures text { λ end. ⌜ Put (refusalLine (named refusal) place) (now (out .entry)) 0 (now (out .exit)) end ⌝ }
     ensures within { λ end. ⌜ end ≤ longestRefusalLine ⌝ }

@@ -6,19 +6,15 @@ use borrow.Author.Needs.{needs}
 use Rattle.statement.proofs.file_text.Statement.{statement}
 use Rattle.statement.proofs.file_text.Tie as tie
 
--- src/main.rt:131:9
 statement-requires : tie.Need-statement-requires
 statement-requires c κs = search needs
 
--- src/main.rt:132:5
 answer-text-requires : tie.Need-answer-text-requires
 answer-text-requires c κs = (omega (arith, c .before .before .before .before .before .before .before .pre, c .before .before .out .given), statement-printed _ _ (c .before .before .before .before .before .before .before .pre) _ (c .before .before .before .statement .ensures) .0)
 
--- src/main.rt:126:1
 same-length : tie.Need-same-length
 same-length c = search needs
 
--- src/main.rt:126:1
 returns : tie.Need-returns
 returns c = (c .before .before .answer-text .ensures .0, c .before .before .answer-text .ensures .1 ∙ statement-printed _ _ (c .before .before .before .before .before .before .before .before .before .before .pre) _ (c .before .before .before .before .before .before .statement .ensures) .1)
 

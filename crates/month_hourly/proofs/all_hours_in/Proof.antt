@@ -1,0 +1,53 @@
+-- `month_hourly::all_hours_in` meets its contract: what is made before the hours is passed on. Assumes nothing.
+use borrow.Author.Needs.{needs}
+use Rattle.month_hourly.proofs.all_hours_in.Statement.{statement}
+use Rattle.month_hourly.proofs.all_hours_in.Tie as tie
+
+make-requires : tie.Need-make-requires
+make-requires c κs = search needs
+
+pass-made-requires : tie.Need-pass-made-requires
+pass-made-requires c κs = (c .before .before .before .before .before .before .before .before .before .before .before .before .before .before .before .before .before .before .before .before .before .before .before .before .before .before .before .before .before .before .before .pre .0 .accepted, (c .before .before .before .before .before .before .before .before .before .before .before .before .before .before .before .before .before .make .ensures, (c .before .before .before .before .before .before .before .before .before .before .before .before .before .before .before .before .before .before .before .before .before .before .before .before .before .before .before .before .before .before .before .pre .1 .0, c .before .before .before .before .before .before .before .before .before .before .before .before .before .before .before .before .before .before .before .before .before .before .before .before .before .before .before .before .before .before .before .pre .1 .1)))
+
+same-length : tie.Need-same-length
+same-length c = search needs
+
+same-length-2 : tie.Need-same-length-2
+same-length-2 c = search needs
+
+same-length-3 : tie.Need-same-length-3
+same-length-3 c = search needs
+
+same-length-4 : tie.Need-same-length-4
+same-length-4 c = search needs
+
+same-length-5 : tie.Need-same-length-5
+same-length-5 c = search needs
+
+same-length-6 : tie.Need-same-length-6
+same-length-6 c = search needs
+
+same-length-7 : tie.Need-same-length-7
+same-length-7 c = search needs
+
+same-length-8 : tie.Need-same-length-8
+same-length-8 c = search needs
+
+returns : tie.Need-returns
+returns c = search needs
+
+pub all-hours-in-spec : {M : Type 1} → statement M
+all-hours-in-spec =
+    tie.close
+    (tie.spec
+    make-requires
+    pass-made-requires
+    same-length
+    same-length-2
+    same-length-3
+    same-length-4
+    same-length-5
+    same-length-6
+    same-length-7
+    same-length-8
+    returns)

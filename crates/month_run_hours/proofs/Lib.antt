@@ -1,0 +1,5 @@
+pub mod Putting
+pub mod Carrying
+pub mod OneHour
+pub mod Windows
+pub mod Handing

@@ -1,0 +1,58 @@
+-- A record's bytes are its fields glued together, each in its width, after its kind.
+use mathlib.Core.List.{List, [], _∷_, _++_, append-assoc, append-nil}
+use mathlib.Core.Path.{_≡_, sym, _∙_, ap}
+use Prim.Native.Nat.{ℕ, _%_, _<_}
+use native.Mathlib.Omega.{arith}
+use lib.IntN.{ℤ}
+use lib.ListN.{length}
+use lib.Seq.{sets}
+use mir.Facts.{toZ-ofZ}
+use mir.Syntax.{w64}
+use mir.Val.{SFits, toZ, ofZ}
+use Rattle.record_write.specs.Fields.{glue, uncomplemented}
+use Rattle.rules.specs.Flows.{Flows}
+use Rattle.rules.specs.Record.{Heading, Reading, heading, party, reading, price, end, bytesOf, recordBytes, flowsBytes}
+use Rattle.record_write.proofs.Bytes.{sets-append}
+use Rattle.record_write.proofs.Complement.{unsigned-4, unsigned-8}
+
+-- one byte stands for itself
+one-byte : (k : ℕ) → k < 256 → bytesOf 1 k ≡ k ∷ []
+unfolding bytesOf
+one-byte k h = let e : k % 256 ≡ k = omega arith in rw e
+
+-- a kind before what is glued
+after-kind : (k : ℕ) → k < 256 → (rest : List ℕ) → bytesOf 1 k ++ rest ≡ k ∷ rest
+after-kind k h rest = ap (λ (l : List ℕ). l ++ rest) (one-byte k h)
+
+pub heading-glued : (h : Heading)
+    → glue (1 ∷ 2 ∷ 2 ∷ 1 ∷ 2 ∷ 1 ∷ 1 ∷ []) (1 ∷ h .area ∷ h .year ∷ h .month ∷ h .hours ∷ h .parties ∷ h .carrier ∷ []) ≡ recordBytes (heading h)
+unfolding glue recordBytes
+heading-glued h = after-kind 1 (omega arith) _ ∙ simp (append-assoc, append-nil)
+
+pub hour-glued : (k : ℕ) → k < 256 → (hour : ℕ) (f : Flows) → SFits w64 (f .net) → {u : ℕ} → u ≡ uncomplemented 18446744073709551615 (toZ w64 (ofZ w64 (f .net)))
+    → glue (1 ∷ 2 ∷ 1 ∷ 8 ∷ 8 ∷ 8 ∷ 8 ∷ []) (k ∷ hour ∷ f .status ∷ u ∷ f .production ∷ f .hourly ∷ f .flex ∷ []) ≡ k ∷ flowsBytes hour f
+unfolding glue flowsBytes
+hour-glued k b hour f s e =
+    rw (e, toZ-ofZ s, unsigned-8 (f .net)) (after-kind k b _ ∙ simp (append-assoc, append-nil))
+
+pub reading-glued : (r : Reading) → glue (1 ∷ 1 ∷ 2 ∷ 2 ∷ 4 ∷ []) (4 ∷ r .party ∷ r .a ∷ r .b ∷ r .e ∷ []) ≡ recordBytes (reading r)
+unfolding glue recordBytes
+reading-glued r = after-kind 4 (omega arith) _ ∙ simp (append-assoc, append-nil)
+
+pub price-glued : (hour : ℕ) (p : ℤ) → SFits w64 p → {u : ℕ} → u ≡ uncomplemented 4294967295 (toZ w64 (ofZ w64 p))
+    → glue (1 ∷ 2 ∷ 4 ∷ []) (5 ∷ hour ∷ u ∷ []) ≡ recordBytes (price hour p)
+unfolding glue recordBytes
+price-glued hour p s e = rw (e, toZ-ofZ s, unsigned-4 p) (after-kind 5 (omega arith) _ ∙ simp append-nil)
+
+pub end-glued : (count : ℕ) → glue (1 ∷ 4 ∷ []) (7 ∷ count ∷ []) ≡ recordBytes (end count)
+unfolding glue recordBytes
+end-glued count = after-kind 7 (omega arith) _ ∙ simp append-nil
+
+-- a party's bytes, in three goes
+pub party-put : (gln : List ℕ) (share : ℕ) → length gln ≡ 13 → (d : List ℕ) {a b c : List ℕ} → a ≡ sets d 0 (bytesOf 1 2) → b ≡ sets a 1 gln → c ≡ sets b 14 (bytesOf 8 share)
+    → c ≡ sets d 0 (recordBytes (party (record { gln = gln; share = share })))
+unfolding recordBytes
+party-put gln share e d {a} {b} {c} p q r =
+    r ∙ ap (λ (l : List ℕ). sets l 14 (bytesOf 8 share)) (q ∙ ap (λ (l : List ℕ). sets l 1 gln) (p ∙ ap (sets d 0) (one-byte 2 (omega arith))))
+    ∙ ap (λ (k : ℕ). sets (sets (sets d 0 (2 ∷ [])) 1 gln) k (bytesOf 8 share)) (omega (arith, e))
+    ∙ sym (sets-append (sets d 0 (2 ∷ [])) 1 gln (bytesOf 8 share))

@@ -1,0 +1,47 @@
+-- Demand 2, of the two functions together: what `write` wrote, `read_alone` reads as the same record; what `read_alone` read, `write` writes as the same
+-- bytes. Each follows from the two promises and the round trips of the rules. What is asked besides is what the machine's types give: an end count of 32
+-- bits, bytes below 256.
+use mathlib.Core.List.{List, _++_}
+use mathlib.Core.Path.{_≡_, sym, _∙_, ap}
+use Prim.Native.Nat.{ℕ, _+_, _≤_}
+use borrow.Author.Tests.{le-leb}
+use lib.ListN.{length, take, drop}
+use lib.Seq.{length-take-le}
+use Rattle.record.specs.Record.{recordOf, glnBytes, told}
+use Rattle.record_write.specs.Writing.{roomFor, wrote}
+use Rattle.record.specs.declared.Read as Code
+use Rattle.record.specs.declared.Read.the-variants.{Given}
+use Rattle.record.specs.declared.Record as Code′
+use Rattle.record_write.specs.declared.Written as Code″
+use Rattle.record_write.specs.declared.Written.the-variants.{Bytes}
+use Rattle.rules.specs.Record.{Record, bodyLength, kindAt, fieldChecks, recordBytes, readAlone, writeVerdict, written}
+use Rattle.rules.specs.Refusals.{Verdict, accepted, given, unless, andThen, first, answer, afterwards}
+use Rattle.rules.proofs.Refusals.{both-accept}
+use Rattle.rules.proofs.RoundTrip as R
+use Rattle.record_write.proofs.WriteOne.{verdict-is}
+
+module _ (gln : List ℕ) (r : Code′.Record) (out after : List ℕ) (w : Code″.Written)
+    (answered : wrote w ≡ answer (writeVerdict (recordOf gln r) (length out)) (length (recordBytes (recordOf gln r))))
+    (contents : after ≡ afterwards (writeVerdict (recordOf gln r) (length out)) (written (recordOf gln r) out) out) where
+  -- READ OF WRITTEN IS THE SAME RECORD
+  pub read-what-was-written : (n : ℕ) → w ≡ Bytes n → R.CountHeld (recordOf gln r)
+      → (found : Code.Read) → told (glnBytes after) found ≡ readAlone after → told (glnBytes after) found ≡ given (recordOf gln r)
+  unfolding afterwards written
+  read-what-was-written n e held found promise =
+      let verdict : writeVerdict (recordOf gln r) (length out) ≡ accepted = R.given-by _ _ n (sym answered ∙ ap wrote e) .0 in
+      let checked : first (fieldChecks 745 64 (recordOf gln r) 0) ≡ accepted = both-accept _ _ (sym (verdict-is (recordOf gln r) out) ∙ verdict) .0 in
+      let bytes : after ≡ recordBytes (recordOf gln r) ++ drop (length (recordBytes (recordOf gln r))) out = contents ∙ ap (λ (v : Verdict). afterwards v (written (recordOf gln r) out) out) verdict in
+      promise ∙ ap readAlone bytes ∙ R.read-of-written (recordOf gln r) (drop (length (recordBytes (recordOf gln r))) out) held checked
+
+  -- WRITTEN OF READ IS THE SAME BYTES: into a part with room for them
+  pub written-what-was-read : (s : List ℕ) → R.Bytes s → recordOf gln r ≡ recordOf (glnBytes s) r → told (glnBytes s) (Given r) ≡ readAlone s → 1 + bodyLength (kindAt s) ≤ length out
+      → (wrote w ≡ given (1 + bodyLength (kindAt s))) × (after ≡ take (1 + bodyLength (kindAt s)) s ++ drop (1 + bodyLength (kindAt s)) out)
+  unfolding roomFor unless andThen answer afterwards written
+  written-what-was-read s small same promise room =
+      let reads : readAlone s ≡ given (recordOf gln r) = sym promise ∙ ap given (sym same) in
+      let says : R.Read s (recordOf gln r) = R.what-read-says s (recordOf gln r) reads in
+      let bytes : recordBytes (recordOf gln r) ≡ take (1 + bodyLength (kindAt s)) s = R.written-of-read s (recordOf gln r) small reads in
+      let size : length (recordBytes (recordOf gln r)) ≡ 1 + bodyLength (kindAt s) = ap length bytes ∙ length-take-le (1 + bodyLength (kindAt s)) s (says .fits) in
+      let verdict : writeVerdict (recordOf gln r) (length out) ≡ accepted =
+      verdict-is (recordOf gln r) out ∙ rw (says .judged, size, le-leb (1 + bodyLength (kindAt s)) (length out) room) in
+      (answered ∙ rw (verdict, size), contents ∙ rw (verdict, size, bytes))

@@ -1,0 +1,3 @@
+pub mod Silent
+pub mod Hours
+pub mod Unique
