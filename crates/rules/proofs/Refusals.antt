@@ -2,12 +2,12 @@
 use mathlib.Core.Bool.{Bool, true, false}
 use mathlib.Core.List.{List, [], _∷_, _++_}
 use mathlib.Core.Logic.{_↔_, ⊎-elim}
-use mathlib.Core.Path.{_≡_, refl, sym, _∙_, ap}
+use mathlib.Core.Path.{_≡_, refl, sym, _∙_, ap, ap₂}
 use Prim.Native.Nat.{ℕ, zero, suc, _+_, _<_}
 use native.Mathlib.Nat.{eq-or-lt-of-le, le-of-suc-le-suc, not-suc-le-zero}
 use native.Mathlib.Omega.{arith}
 use Rattle.rules.specs.Accepted.{NoneRefuses, FirstRefuses}
-use Rattle.rules.specs.Refusals.{Refusal, Verdict, accepted, refused, unless, andThen, first, inTurn}
+use Rattle.rules.specs.Refusals.{Refusal, Verdict, accepted, refused, given, refusal, unless, andThen, first, inTurn, answer}
 use Rattle.rules.specs.Words.{figures}
 
 pub refused-not-accepted : {r : Refusal} {place : ℕ} → refused r place ≡ accepted → ⊥
@@ -100,3 +100,17 @@ pub unless-exactly : (test : Bool) (r : Refusal) (place : ℕ) → (unless test 
 unfolding unless
 unless-exactly true r place = (λ e. refl, λ e. refl)
 unless-exactly false r place = (λ e. absurd (refused-not-accepted e), λ e. let z : _≡_ {A = ℕ} 0 1 = cc in absurd (omega arith))
+
+-- WHAT AN ANSWER TELLS of the verdict that it follows: accepted, where it gives a value, and the value is that of the call; else the refusal
+given-not-refusal : {A : Type 0} {a : A} {r : Refusal} {place : ℕ} → given a ≡ refusal r place → ⊥
+given-not-refusal e = let z : _≡_ {A = ℕ} 0 1 = cc in absurd (omega arith)
+
+pub given-tells : {A : Type 0} (v : Verdict) (value : A) {a : A} → given a ≡ answer v value → (v ≡ accepted) × (a ≡ value)
+unfolding answer
+given-tells accepted value e = (refl, cc)
+given-tells (refused r place) value e = absurd (given-not-refusal e)
+
+pub refusal-tells : {A : Type 0} (v : Verdict) (value : A) {r : Refusal} {place : ℕ} → refusal r place ≡ answer v value → v ≡ refused r place
+unfolding answer
+refusal-tells accepted value e = absurd (given-not-refusal (sym e))
+refusal-tells (refused x q) value {r} {place} e = let same : x ≡ r = cc in let at : q ≡ place = cc in ap₂ refused same at

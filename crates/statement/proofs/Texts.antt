@@ -1,17 +1,15 @@
 -- The text at the start of the buffer is the one to print: of a refusal, its line; of an accepted month, its lines.
 use mathlib.Core.List.{List}
-use mathlib.Core.Path.{_≡_, refl, sym, _∙_, ap₂, subst}
+use mathlib.Core.Path.{_≡_, refl, sym, _∙_, subst}
 use Prim.Native.Nat.{ℕ, _≤_}
-use native.Mathlib.Omega.{arith}
 use borrow.Author.Tests.{le-leb}
 use lib.ListN.{length}
 use Rattle.answer.specs.Said.{named}
 use Rattle.answer.specs.declared.Refusal.{Refusal}
 use Rattle.rules.specs.Month.{fileVerdict}
-use Rattle.rules.specs.Refusals.{Verdict, accepted, refused, given, refusal, unless, answer, afterwards}
-use Rattle.rules.specs.Refusals as R
+use Rattle.rules.specs.Refusals.{unless, afterwards}
 use Rattle.rules.specs.Statement as Statement
-use Rattle.rules.proofs.Refusals.{then-accepted}
+use Rattle.rules.proofs.Refusals.{then-accepted, given-tells, refusal-tells}
 use Rattle.statement_text.specs.Lines.{statementRoom}
 use Rattle.statement_text.specs.Stating.{textVerdict, Promised}
 use Rattle.statement_text.proofs.Statements.{refusal-text}
@@ -42,20 +40,10 @@ module _ (file old : List ℕ) (room : statementRoom ≤ length old) where
   unfolding textVerdict unless
   only-the-file = rw (le-leb statementRoom (length old) room) (then-accepted (fileVerdict file))
 
-  lines-of : (v : Verdict) {n : ℕ} → given n ≡ answer v (length (Statement.statement file)) → n ≡ length (Statement.statement file)
-  unfolding answer
-  lines-of accepted e = cc
-  lines-of (refused r place) e = let clash : _≡_ {A = ℕ} 0 1 = cc in absurd (omega arith)
-
-  refusal-of : (v : Verdict) {r : R.Refusal} {place : ℕ} → refusal r place ≡ answer v (length (Statement.statement file)) → v ≡ refused r place
-  unfolding answer
-  refusal-of accepted e = let clash : _≡_ {A = ℕ} 0 1 = cc in absurd (omega arith)
-  refusal-of (refused x q) {r} {place} e = let same : x ≡ r = cc in let at : q ≡ place = cc in ap₂ refused same at
-
   pub statement-printed : (stated : Stated) {new : List ℕ} → Promised file old stated new → LinesWithin stated (length new) × (printed stated new ≡ Statement.statement file)
   unfolding afterwards
   statement-printed (Lines n) {new} p =
-      let long : n ≡ length (Statement.statement file) = lines-of (textVerdict file (length old)) (p .answer) in
+      let long : n ≡ length (Statement.statement file) = given-tells (textVerdict file (length old)) (length (Statement.statement file)) (p .answer) .1 in
       rw (p .contents, long) (stands-at-start (Statement.statement file) old)
   statement-printed (Refused r place) {new} p =
-      (tt, sym (refusal-text file (sym only-the-file ∙ refusal-of (textVerdict file (length old)) (p .answer))))
+      (tt, sym (refusal-text file (sym only-the-file ∙ refusal-tells (textVerdict file (length old)) (length (Statement.statement file)) (p .answer))))
