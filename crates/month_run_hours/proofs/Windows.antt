@@ -1,6 +1,6 @@
 -- The windows of a run, and the hours of each: the hours before are written, and each window takes the next ones.
 use mathlib.Core.List.{List}
-use mathlib.Core.Path.{_≡_, refl, sym, _∙_, ap, subst}
+use mathlib.Core.Path.{_≡_, refl, sym, ap, subst}
 use Prim.Native.Nat.{ℕ, _+_, _-_, _*_, _/_, _≤_, _<_, min, zero-le}
 use native.Mathlib.Nat.{add-zero, add-assoc, zero-mul, le-antisymm}
 use native.Mathlib.Omega.{arith}

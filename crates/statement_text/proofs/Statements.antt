@@ -1,5 +1,5 @@
 -- The statement of a file: its lines one after the other, or its refusal.
-use mathlib.Core.Bool.{Bool, true, false}
+use mathlib.Core.Bool.{Bool}
 use mathlib.Core.List.{List, _++_}
 use mathlib.Core.Path.{_≡_, refl, sym, _∙_, ap, ap₂}
 use Prim.Native.Nat.{ℕ, _+_, _*_, _≤_, _<_}
@@ -14,17 +14,16 @@ use Rattle.answer.specs.declared.Refusal.the-variants.{WrongLength}
 use Rattle.month.specs.Outcomes.{OutcomeIs}
 use Rattle.month.specs.declared.Outcome.{Outcome}
 use Rattle.month_file.specs.Fields.{Accepted}
-use Rattle.month_file.specs.Walk.{sectionsOf}
 use Rattle.month_file.specs.declared.Sections.{Sections}
-use Rattle.month_file.proofs.AcceptedFile.{read-as, sections-are}
-use Rattle.rules.specs.Month.{monthOf, monthVerdict, estimatedHours, verdictOn, fileVerdict}
-use Rattle.rules.specs.MonthFile.{MonthFile, H, P, readMonth}
+use Rattle.month_file.proofs.AcceptedFile.{read-as, heading-text}
+use Rattle.rules.specs.Month.{monthOf, monthVerdict, verdictOn, fileVerdict}
+use Rattle.rules.specs.MonthFile.{MonthFile, readMonth}
 use Rattle.rules.specs.Refusals as R
 use Rattle.rules.specs.Statement as T
-use Rattle.statement_text.specs.Lines.{Settled, partyLines, LinePut, statementRoom}
+use Rattle.statement_text.specs.Lines.{Settled, partyLines, statementRoom}
 use Rattle.statement_text.specs.Stating.{textVerdict, Promised}
 use Rattle.statement_text.specs.declared.Stated.the-variants as S
-use Rattle.text.specs.Text.{Put, headingRoom, columnsRoom, atStart}
+use Rattle.text.specs.Text.{Put, LinePut, headingRoom, columnsRoom, atStart}
 use Rattle.text.proofs.Puts.{put-then, put-as, put-length, put-at-start}
 
 module _ (file : List ℕ) (s : Sections) (ok : Accepted file s) {outcome : Outcome} (is : OutcomeIs (monthOf file) outcome) (done : outcome .answer ≡ Done) where
@@ -36,11 +35,6 @@ module _ (file : List ℕ) (s : Sections) (ok : Accepted file s) {outcome : Outc
 
   pub settled : Settled file s (outcome .sums)
   settled = record { read = ok; no-refusal = no-refusal; sums-are = is .sums (ap said done) }
-
-  heading-text : T.headingText (s .heading .area) (s .heading .year) (s .heading .month) (s .heading .hours) (s .heading .parties) (outcome .estimated) ≡ T.headingLine m
-  unfolding T.headingLine H P sectionsOf
-  heading-text =
-      ap₂ (λ (x : Sections) (k : ℕ). T.headingText (x .heading .area) (x .heading .year) (x .heading .month) (x .heading .hours) (x .heading .parties) k) (sections-are file s ok) (is .estimated (ap said done))
 
   -- THE LINES ONE AFTER THE OTHER
   module _ {before out₁ : List ℕ} {end₁ : ℕ} (h : Put (T.headingText (s .heading .area) (s .heading .year) (s .heading .month) (s .heading .hours) (s .heading .parties) (outcome .estimated)) before 0 out₁ end₁)
@@ -55,7 +49,7 @@ module _ (file : List ℕ) (s : Sections) (ok : Accepted file s) {outcome : Outc
       pub all-lines : {after : List ℕ} {end : ℕ} → LinePut (T.totalLine m) out₂ end₂ columnsRoom after end → LinePut (T.statementLines m) before 0 statementRoom after end
       unfolding T.statementLines
       all-lines t =
-          record { put = put-then (put-then (put-as heading-text h) (p .put)) (t .put); within = omega (arith, p .within, t .within) }
+          record { put = put-then (put-then (put-as (heading-text file s ok (is .estimated (ap said done))) h) (p .put)) (t .put); within = omega (arith, p .within, t .within) }
 
   -- THE STATEMENT OF THE FILE IS THESE LINES
   statement-is : T.statement file ≡ T.statementLines m

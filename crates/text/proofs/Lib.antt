@@ -3,5 +3,6 @@ pub mod Stands
 pub mod Digits
 pub mod Signs
 pub mod Lines
+pub mod Runs
 pub mod RefusalLine
 pub mod Unique
