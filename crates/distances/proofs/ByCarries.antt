@@ -2,7 +2,7 @@
 use mathlib.Core.Bool.{Bool, true, false}
 use mathlib.Core.List.{List}
 use mathlib.Core.Path.{_≡_, sym, _∙_, ap, ap₂}
-use Prim.Native.Nat.{ℕ, _+_, _*_, _<_}
+use Prim.Native.Nat.{ℕ, _<_}
 use native.Mathlib.Omega.{arith}
 use lib.IntN.{ℤ, pos, _-ℤ_, _*ℤ_}
 use Rattle.apportion.specs.Filled.{Filled}
@@ -12,26 +12,14 @@ use Rattle.apportion.proofs.Arrays.{filled-as}
 use Rattle.distances.specs.declared.Distances.{Distances}
 use Rattle.distances.specs.Extremes.{distanceIn, distanceOf, distanceBy, Near, smallerIn, largerIn, smallestWith, largestWith, With}
 use Rattle.rules.specs.Demands.{exactShare}
-use Rattle.rules.specs.Distributed.{roundedDown, remainder, leftOver, runningSum}
+use Rattle.rules.specs.Distributed.{remainder, leftOver, runningSum}
 use Rattle.rules.specs.Flows.{W}
 use Rattle.rules.specs.HoursReport.{smaller, larger}
 use Rattle.rules.specs.Services.{atℤ}
 use Rattle.rules.specs.Words.{at}
-use Rattle.rules.proofs.Demand3.{divided, remainder-below}
-use Rattle.rules.proofs.Integers.{minus-cong}
+use Rattle.rules.proofs.Demand3.{remainder-below}
+use Rattle.rules.proofs.HoursReport.{by-carries}
 use Rattle.rules.proofs.LargestRemainder.{one-at-most}
-
--- a running sum less the exact share is what the party has of the Wh left over, less its remainder
-pub by-carries :
-    (n : ℕ) (share : ℕ → ℕ)
-    → 0 < W n share
-    → (r i : ℕ)
-    → pos (runningSum n share r i) *ℤ pos (W n share) -ℤ pos (exactShare share r i)
-    ≡ distanceOf (extraAfter n share r i) (remainder n share r i) (W n share)
-unfolding runningSum exactShare
-by-carries n share some r i =
-    minus-cong ((roundedDown n share r i + extraAfter n share r i) * W n share) (share i * r) (extraAfter n share r i * W n share) (remainder n share r i)
-    (omega (arith, divided n share some r i))
 
 module _ {c : Carries} (good : Good c) where
   abbrev n : ℕ
@@ -57,7 +45,7 @@ module _ {c : Carries} (good : Good c) where
       }
 
   is-distance : (k : ℕ) → k < n → distanceBy (c .extra) (c .remainder) (c .w) k ≡ distanceIn c k
-  unfolding distanceBy distanceIn
+  unfolding distanceBy distanceIn exactShare
   is-distance k b =
       ap₂ (λ (e r : ℕ). distanceOf e r (c .w)) (extra-at k b) (remainder-at k b)
       ∙ ap (λ (w : ℕ). distanceOf (extraAfter n (shareIn c) (c .«sum_wh») k) (remainder n (shareIn c) (c .«sum_wh») k) w) (good .w-is)

@@ -15,7 +15,6 @@ use Rattle.apportion.proofs.Arrays.{filled-as}
 use Rattle.apportion.proofs.Hours.{running-same}
 use Rattle.distances.specs.Extremes.{distanceIn, smallestWith, largestWith, With}
 use Rattle.distances.specs.declared.Distances.{Distances}
-use Rattle.distances.proofs.ByCarries.{by-carries}
 use Rattle.month_hour.specs.Column.{column, Column, EachInHour, addable}
 use Rattle.month_hour.specs.Sums.{Summable}
 use Rattle.month_hour.proofs.Totals.{summable, sum-is}
@@ -32,7 +31,7 @@ use Rattle.rules.specs.Month.{monthOf, shareOf, monthW, appliedWh, distributed,
 use Rattle.rules.specs.MonthFile.{MonthFile, H, P}
 use Rattle.rules.specs.Services.{atℤ}
 use Rattle.rules.specs.Words.{sum, sumℤ, at}
-use Rattle.rules.proofs.HoursReport.{distance-is}
+use Rattle.rules.proofs.HoursReport.{by-carries, distance-is}
 use Rattle.rules.proofs.Loops.{Filling, fill-next}
 use Rattle.rules.proofs.Month.{Judged, some-share}
 use Rattle.rules.proofs.Sums.{sum-cong}

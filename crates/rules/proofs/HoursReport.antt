@@ -19,6 +19,14 @@ use Rattle.rules.specs.Words.{sum, sumℤ}
 use Rattle.rules.proofs.Demand3.{divided, sum-since-first-is, running-below, running-above}
 use Rattle.rules.proofs.Integers.{minus-cong, minus-near, sumℤ-cong}
 
+-- A RUNNING SUM LESS THE EXACT SHARE, in W-ths of a Wh, is what the party has of the Wh left over, less its remainder
+pub by-carries : (n : ℕ) (share : ℕ → ℕ) → 0 < W n share → (r i : ℕ) → pos (runningSum n share r i * W n share) -ℤ pos (share i * r) ≡ pos (oneEach n (remainder n share r) (leftOver n share r) i * W n share) -ℤ pos (remainder n share r i)
+unfolding runningSum
+by-carries n share some r i =
+    let extra : ℕ = oneEach n (remainder n share r) (leftOver n share r) i in
+    minus-cong ((roundedDown n share r i + extra) * W n share) (share i * r) (extra * W n share) (remainder n share r i)
+    (omega (arith, divided n share some r i))
+
 module _ (m : MonthFile) (some : 0 < monthW m) (i hours : ℕ) where
   -- the residuals so far, and the party's running sum
   so-far : ℕ
@@ -39,14 +47,8 @@ module _ (m : MonthFile) (some : 0 < monthW m) (i hours : ℕ) where
 
   -- A DISTANCE BY THE CARRIES: the left-over Wh that the party has, less its remainder
   pub distance-is : distanceAfter m i hours ≡ pos (oneEach (P m) (remainder (P m) (shareOf m) (sum hours (appliedWh m))) (leftOver (P m) (shareOf m) (sum hours (appliedWh m))) i * monthW m) -ℤ pos (remainder (P m) (shareOf m) (sum hours (appliedWh m)) i)
-  unfolding running so-far runningSum monthW
-  distance-is =
-      let r : ℕ = sum hours (appliedWh m) in
-      let extra : ℕ = oneEach (P m) (remainder (P m) (shareOf m) r) (leftOver (P m) (shareOf m) r) i in
-      let floor : ℕ = roundedDown (P m) (shareOf m) r i in
-      by-running
-      ∙ minus-cong ((floor + extra) * W (P m) (shareOf m)) (shareOf m i * r) (extra * W (P m) (shareOf m)) (remainder (P m) (shareOf m) r i)
-      (omega (arith, divided (P m) (shareOf m) some r i))
+  unfolding running so-far monthW
+  distance-is = by-running ∙ by-carries (P m) (shareOf m) some (sum hours (appliedWh m)) i
 
   -- A DISTANCE IS LESS THAN A WH
   pub less-than-a-wh : natAbs (distanceAfter m i hours) < monthW m

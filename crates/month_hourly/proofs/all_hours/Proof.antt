@@ -52,25 +52,25 @@ part-window-end : tie.Need-part-window-end
 part-window-end c = search needs
 
 all-hours-in-requires : tie.Need-all-hours-in-requires
-all-hours-in-requires c κs = (record { accepted = c .before .before .before .before .before .before .before .before .before .before .before .before .before .before .before .before .before .before .pre .accepted; shares-size = search needs; fixed-size = search needs; refixed-size = search needs; curve-size = search needs; beginnings-size = search needs }, (search needs, sums-lent (c .before .before .before .before .before .before .before .before .before .before .before .before .before .before .before .before .before .before .pre)))
+all-hours-in-requires c κs = (record { accepted = c .before .before .before .before .before .before .before .before .before .before .before .before .before .before .before .before .before .before .pre .accepted; shares-size = search needs; fixed-size = c .before .before .before .before .before .before .before .before .before .before .before .before .before .before .before .before .before .before .pre .fixed-size; refixed-size = c .before .before .before .before .before .before .before .before .before .before .before .before .before .before .before .before .before .before .pre .refixed-size; curve-size = c .before .before .before .before .before .before .before .before .before .before .before .before .before .before .before .before .before .before .pre .curve-size; beginnings-size = search needs }, (search needs, sums-lent (c .before .before .before .before .before .before .before .before .before .before .before .before .before .before .before .before .before .before .pre)))
 
 same-length : tie.Need-same-length
-same-length c = search needs
+same-length c = c .before .before .before .before .before .before .before .before .before .before .fixed-wh .given
 
 same-length-2 : tie.Need-same-length-2
-same-length-2 c = search needs
+same-length-2 c = c .before .before .before .before .before .before .before .before .refixed-wh .given
 
 same-length-3 : tie.Need-same-length-3
-same-length-3 c = search needs
+same-length-3 c = c .before .before .before .before .before .before .curve .given
 
 same-length-4 : tie.Need-same-length-4
-same-length-4 c = search needs
+same-length-4 c = c .before .before .distributed-wh .given
 
 same-length-5 : tie.Need-same-length-5
-same-length-5 c = search needs
+same-length-5 c = c .before .periodised-wh .given
 
 returns : tie.Need-returns
-returns c = search needs
+returns c = c .before .before .before .before .before .before .before .before .before .before .before .before .all-hours-in .ensures
 
 pub all-hours-spec : {M : Type 1} → statement M
 all-hours-spec =
