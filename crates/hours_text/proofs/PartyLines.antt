@@ -1,7 +1,7 @@
 -- The line of a party, and the lines of all.
 use mathlib.Core.List.{List}
-use mathlib.Core.Path.{_≡_, refl, _∙_, ap, ap₂, subst}
-use Prim.Native.Nat.{ℕ, _-_, _≤_, _<_}
+use mathlib.Core.Path.{_≡_, refl, _∙_, subst}
+use Prim.Native.Nat.{ℕ, _≤_, _<_}
 use native.Mathlib.Nat.{le-of-eq}
 use native.Mathlib.Omega.{arith}
 use lib.IntN.{ℤ, pos}
@@ -12,9 +12,9 @@ use Rattle.month.proofs.Sizes.{few-parties}
 use Rattle.month_file.specs.Fields.{PartyAsked, GlnIs}
 use Rattle.month_file.specs.declared.Sections.{Sections}
 use Rattle.month_file.proofs.AcceptedFile.{parties-are, gln-read, gln-length}
-use Rattle.rules.specs.HoursReport.{distancesText, distancesLine, smallestDistance, largestDistance}
-use Rattle.rules.specs.Month.{monthOf, partyAt}
-use Rattle.rules.specs.MonthFile.{MonthFile, P}
+use Rattle.rules.specs.HoursReport.{distancesText, distancesLine}
+use Rattle.rules.specs.Month.{monthOf}
+use Rattle.rules.specs.MonthFile.{P}
 use Rattle.rules.specs.Statement.{joined}
 use Rattle.rules.specs.Words.{figures}
 use Rattle.text.specs.Text.{LinePut, longestName}

@@ -1,8 +1,8 @@
 -- The report of a file: its parts in the three buffers, or its refusal.
-use mathlib.Core.Bool.{Bool, true, false, not, _&&_}
+use mathlib.Core.Bool.{Bool, true, false, _&&_}
 use mathlib.Core.List.{List, _++_}
 use mathlib.Core.Path.{_≡_, refl, sym, _∙_, ap, ap₂}
-use Prim.Native.Nat.{ℕ, _≤_, _<_}
+use Prim.Native.Nat.{ℕ}
 use native.Mathlib.Omega.{arith}
 use borrow.Author.Tests.{le-leb, leb-true}
 use lib.Dec.{leb}
@@ -11,7 +11,7 @@ use Rattle.answer.specs.Said.{named}
 use Rattle.answer.specs.declared.Refusal.{Refusal}
 use Rattle.answer.specs.declared.Refusal.the-variants.{WrongLength}
 use Rattle.hours_text.specs.Lines.{firstRoom, restRoom, partiesRoom, firstPart, restPart, partiesPart, Roomy}
-use Rattle.hours_text.specs.Reporting.{Lengths, lengthsOf, rooms, reportVerdict, Promised}
+use Rattle.hours_text.specs.Reporting.{lengthsOf, rooms, reportVerdict, Promised}
 use Rattle.hours_text.specs.declared.Reported.the-variants as S
 use Rattle.hours_text.proofs.Parts.{parts-make-the-report}
 use Rattle.month_file.specs.Fields.{Accepted}

@@ -1,6 +1,6 @@
 -- No second result fits: what `report` promises leaves one answer, and one content of each lent buffer.
 use mathlib.Core.List.{List}
-use mathlib.Core.Path.{_≡_, refl, sym, _∙_, ap}
+use mathlib.Core.Path.{_≡_, sym, _∙_, ap}
 use Prim.Native.Nat.{ℕ}
 use Rattle.answer.specs.Said.{named}
 use Rattle.answer.proofs.Said.{named-once}

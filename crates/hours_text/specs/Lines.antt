@@ -3,7 +3,6 @@ use mathlib.Core.List.{List, _++_}
 use mathlib.Core.Path.{_≡_}
 use Prim.Native.Nat.{ℕ, _+_, _-_, _≤_, _<_, min}
 use lib.IntN.{ℤ, pos}
-use lib.ListN.{length}
 use Rattle.apportion.specs.Filled.{Filled}
 use Rattle.distances.specs.declared.Distances.{Distances}
 use Rattle.month_file.specs.Fields.{Accepted}
@@ -12,7 +11,6 @@ use Rattle.rules.specs.HoursReport.{hourLine, allDistributed, smallestDistance,
 use Rattle.rules.specs.Month.{monthOf, monthW, fixedWh, appliedWh, curve, allPeriodised, estimatedHours, monthVerdict}
 use Rattle.rules.specs.MonthFile.{MonthFile, H, P}
 use Rattle.rules.specs.Refusals.{accepted}
-use Rattle.rules.specs.Services.{atℤ}
 use Rattle.rules.specs.Statement.{headingLine, joined}
 use Rattle.rules.specs.Words.{figures}
 

@@ -1,7 +1,6 @@
 -- `hours_text::has_room` meets its contract: the same comparisons. Assumes nothing.
 use mathlib.Core.Path.{refl}
 use Rattle.hours_text.specs.Reporting.{rooms}
-use borrow.Author.Needs.{needs}
 use Rattle.hours_text.proofs.has_room.Statement.{statement}
 use Rattle.hours_text.proofs.has_room.Tie as tie
 
