@@ -1,5 +1,4 @@
 -- What an answer of the code says in the words of the rules: for each case the paper's refusal and place.
-use Prim.Native.Nat.{ℕ}
 use Rattle.answer.specs.declared.Refusal.{Refusal}
 use Rattle.answer.specs.declared.Refusal.the-variants.{FileFault, UnknownKind, OutOfOrder, OutOfRange, GlnFault, WOutOfRange, MissingHour, ResidualNegative, ResidualTooLarge, CurveTooLarge, SpanFault, EnergyTooLarge, NothingToFollow, PeriodisedTooLarge, WrongCount, WrongLength}
 use Rattle.answer.specs.declared.Answer.{Answer}

@@ -1,21 +1,19 @@
 -- DEMAND 3 of what the code gives: of the distribution service's list, and of a run of the carries' method. Each figure is the definition's, and demand 3
 -- is proved of the definition.
 use mathlib.Core.List.{List}
-use mathlib.Core.Logic.{_⊎_, inl, inr, ⊎-elim}
+use mathlib.Core.Logic.{_⊎_}
 use mathlib.Core.Path.{_≡_, refl, sym, _∙_, ap, ap₂, subst}
-use Prim.Native.Nat.{ℕ, zero, suc, _+_, _*_, _/_, _%_, _≤_, _<_}
+use Prim.Native.Nat.{ℕ, zero, suc, _+_, _*_, _≤_, _<_}
 use native.Mathlib.Nat.{add-zero, zero-add, le-of-lt, mul-le-mul-right, mul-add-div-right, mul-add-mod-self-right, div-eq-of-lt, mod-eq-of-lt}
 use native.Mathlib.Omega.{arith}
 use lib.IntN.{ℤ, pos, _-ℤ_}
 use lib.ListN.{length, getD}
-use lib.Signed.{_≤ℤ_}
 use Rattle.apportion.specs.declared.Carries.{Carries}
 use Rattle.apportion.specs.Demand.{Demand3Of}
-use Rattle.apportion.specs.Filled.{Filled}
 use Rattle.apportion.specs.Good.{Started, Next, shareIn, figureAfter}
 use Rattle.apportion.proofs.Hours.{running-same}
-use Rattle.rules.specs.Demands.{sumOver, sumSinceFirst, exactShare, down, up, distance, Demand3}
-use Rattle.rules.specs.Distributed.{runningSum, runningAfter, distributedFigure}
+use Rattle.rules.specs.Demands.{sumOver, sumSinceFirst, exactShare, down, up, Demand3}
+use Rattle.rules.specs.Distributed.{runningAfter, distributedFigure}
 use Rattle.rules.specs.Flows.{W}
 use Rattle.rules.specs.Services.{distributedAt, distributionFigures}
 use Rattle.rules.specs.Words.{sum, sumℤ, at}

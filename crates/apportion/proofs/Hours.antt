@@ -2,23 +2,22 @@
 use mathlib.Core.List.{List}
 use mathlib.Core.Path.{_≡_, refl, sym, _∙_, ap, ap₂, subst}
 use Prim.Native.Nat.{ℕ, zero, suc, _+_, _-_, _*_, _/_, _%_, _≤_, _<_, zero-le}
-use native.Mathlib.Nat.{add-zero, zero-add, zero-mul, add-assoc, le-antisymm, le-trans, mul-le-mul, mul-le-mul-right, mul-add-div-right, mul-add-mod-self-right, div-eq-of-lt, mod-eq-of-lt}
+use native.Mathlib.Nat.{add-zero, zero-mul, add-assoc, le-antisymm, mul-le-mul, mul-le-mul-right, mul-add-div-right, mul-add-mod-self-right, div-eq-of-lt, mod-eq-of-lt}
 use native.Mathlib.Numerals.{add-one}
 use native.Mathlib.Omega.{arith}
 use lib.IntN.{ℤ, pos, _-ℤ_}
 use lib.ListN.{length, getD, set, length-set}
 use Rattle.apportion.specs.declared.Carries.{Carries}
 use Rattle.apportion.specs.Filled.{Filled}
-use Rattle.apportion.specs.Good.{Good, Startable, Started, Ready, Next, shareIn, figureAfter}
+use Rattle.apportion.specs.Good.{Good, Started, Ready, Next, shareIn, figureAfter}
 use Rattle.apportion.specs.Service.{FilledOn, Distributable}
 use Rattle.apportion.proofs.Step.{one-each-cong}
 use Rattle.rules.specs.Distributed.{roundedDown, remainder, leftOver, oneEach, runningSum, runningAfter, distributedFigure}
 use Rattle.rules.specs.Flows.{W}
-use Rattle.rules.specs.Limits.{mostHours, greatestResidual}
 use Rattle.rules.specs.Services.{distributedAt, distributionFigures}
 use Rattle.rules.specs.Words.{sum, at, figures}
 use Rattle.rules.proofs.Loops.{Filling, fill-start, fill-next, fill-end}
-use Rattle.rules.proofs.Sums.{sum-cong, sum-le, sum-scale}
+use Rattle.rules.proofs.Sums.{sum-cong}
 
 -- A loop that has put the first i of n figures from a place on.
 pub record Putting (figures : List ℤ) (n place : ℕ) (before : List ℤ) (i : ℕ) (after : List ℤ) : Type 0 where

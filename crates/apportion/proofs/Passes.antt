@@ -1,23 +1,21 @@
 -- The distribution service pass by pass: the first pass that refuses gives the answer, and nothing is written before all have passed.
 use mathlib.Core.Bool.{true, _&&_}
-use mathlib.Core.List.{List, [], _∷_}
+use mathlib.Core.List.{List}
 use mathlib.Core.Path.{_≡_, refl, sym, _∙_, ap}
-use Prim.Native.Nat.{ℕ, _+_, _*_, _≤_, _<_}
+use Prim.Native.Nat.{ℕ, _*_, _≤_, _<_}
 use native.Mathlib.Nat.{mul-comm}
-use native.Mathlib.Omega.{arith}
 use borrow.Author.Tests.{eqb-true, leb-true}
 use lib.Dec.{eqb, leb}
 use lib.IntN.{ℤ}
-use lib.ListN.{length, getD}
-use Rattle.answer.specs.Said.{named, said}
+use lib.ListN.{length}
+use Rattle.answer.specs.Said.{said}
 use Rattle.answer.specs.declared.Answer.{Answer}
 use Rattle.answer.specs.declared.Answer.the-variants.{Done, Refused}
 use Rattle.answer.specs.declared.Refusal.{Refusal}
-use Rattle.apportion.specs.Good.{Startable}
 use Rattle.apportion.specs.Service.{shapeVerdict, wVerdict, FewShares, Distributable}
 use Rattle.rules.specs.Flows.{W}
 use Rattle.rules.specs.Limits.{mostHours, mostParties, greatestShare, greatestW, greatestResidual}
-use Rattle.rules.specs.Refusals.{outOfRange, wOutOfRange, residualTooLarge, wrongLength, Verdict, accepted, refused, unless, andThen, first, afterwards}
+use Rattle.rules.specs.Refusals.{outOfRange, residualTooLarge, wrongLength, Verdict, accepted, unless, andThen, first, afterwards}
 use Rattle.rules.specs.Services.{checkAt, eachAt, distributionChecks, distributionFigures}
 use Rattle.rules.specs.Words.{at, atMost, within}
 use Rattle.rules.proofs.Refusals.{both-accept, in-turn-exactly, unless-exactly, then-accepted, then-assoc}

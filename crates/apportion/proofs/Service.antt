@@ -1,18 +1,18 @@
 -- The first checks of the distribution service, exit by exit.
-use mathlib.Core.Bool.{Bool, true, false, cond, _&&_}
+use mathlib.Core.Bool.{Bool, true, false, _&&_}
 use mathlib.Core.List.{List}
-use mathlib.Core.Path.{_≡_, refl, sym, _∙_, ap, ap₂}
-use Prim.Native.Nat.{ℕ, zero, suc, _+_, _-_, _*_, _/_, _%_, _≤_, _<_, zero-le}
-use native.Mathlib.Nat.{zero-mul, mul-mod-right, mul-comm, div-add-mod', mul-div-right, le-trans, mul-le-mul-right}
+use mathlib.Core.Path.{_≡_, refl, sym, _∙_, ap}
+use Prim.Native.Nat.{ℕ, zero, suc, _-_, _*_, _/_, _%_, _≤_, _<_}
+use native.Mathlib.Nat.{zero-mul, mul-mod-right, div-add-mod', mul-div-right}
 use native.Mathlib.Omega.{arith}
 use borrow.Author.Tests.{eqb-true, eqb-false, eq-eqb, ne-eqb, lt-leb, le-leb}
-use lib.Dec.{eqb, leb}
+use lib.Dec.{eqb}
 use lib.ListN.{length}
 use Rattle.apportion.specs.Filled.{Filled}
 use Rattle.apportion.specs.Service.{shapeVerdict, wVerdict, FewShares}
 use Rattle.rules.specs.Flows.{W}
-use Rattle.rules.specs.Limits.{mostHours, mostParties, greatestShare, greatestW}
-use Rattle.rules.specs.Refusals.{outOfRange, wOutOfRange, wrongLength, Verdict, accepted, refused, unless, andThen}
+use Rattle.rules.specs.Limits.{mostHours, mostParties}
+use Rattle.rules.specs.Refusals.{outOfRange, wOutOfRange, wrongLength, accepted, refused, unless, andThen}
 use Rattle.rules.specs.Words.{sum, at, within}
 use Rattle.rules.proofs.Sums.{sum-cong, sum-le, sum-scale}
 

@@ -2,16 +2,14 @@
 use mathlib.Core.Bool.{cond}
 use mathlib.Core.List.{List}
 use mathlib.Core.Path.{_≡_, refl, sym, _∙_, ap}
-use Prim.Native.Nat.{ℕ, zero, suc, _+_, _-_, _*_, _%_, _≤_, _<_, zero-le}
+use Prim.Native.Nat.{ℕ, _-_, _%_, _<_, zero-le}
 use native.Mathlib.Nat.{mul-zero, zero-mod, zero-sub}
 use native.Mathlib.Omega.{arith}
 use borrow.Author.Tests.{le-ltb}
-use lib.Dec.{ltb}
-use lib.IntN.{ℤ, pos}
-use lib.ListN.{length, getD, replicate, length-replicate}
-use Rattle.apportion.specs.declared.Carries.{Carries}
+use lib.IntN.{pos}
+use lib.ListN.{length, replicate, length-replicate}
 use Rattle.apportion.specs.Filled.{Filled}
-use Rattle.apportion.specs.Good.{Good, Startable, Started, extraAfter}
+use Rattle.apportion.specs.Good.{Startable, Started, extraAfter}
 use Rattle.apportion.proofs.Arrays.{filled-as, all-nothing}
 use Rattle.rules.specs.Distributed.{remainder, leftOver, oneEach, rank}
 use Rattle.rules.specs.Flows.{W}

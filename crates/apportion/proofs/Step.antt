@@ -1,23 +1,21 @@
 -- One hour on: why the carries are the definition's. The floor of share x (R + r) / W is that of share x R / W and what the kept remainder and share x r
 -- divide to; so remainders, what is left over and who gets it follow, and the figure is the growth of the running sum.
 use mathlib.Core.List.{List}
-use mathlib.Core.Logic.{⊎-elim}
 use mathlib.Core.Path.{_≡_, refl, sym, _∙_, ap, ap₂}
-use Prim.Native.Nat.{ℕ, zero, suc, _+_, _-_, _*_, _/_, _%_, _≤_, _<_}
-use native.Mathlib.Nat.{le-trans, mod-lt, mul-add, mul-le-mul, div-mul-le-self, div-add-mod', mod-add-mod, mul-le-mul-right}
+use Prim.Native.Nat.{ℕ, _+_, _-_, _*_, _/_, _%_, _≤_, _<_}
+use native.Mathlib.Nat.{le-trans, mod-lt, mul-add, mul-le-mul, div-mul-le-self, div-add-mod', mod-add-mod}
 use native.Mathlib.Omega.{arith}
 use lib.Dec.{ltb, eqb}
 use mathlib.Core.Bool.{cond, _||_, _&&_}
-use lib.IntN.{ℤ, pos, _-ℤ_}
-use lib.ListN.{length, getD}
+use lib.IntN.{ℤ, pos}
 use Rattle.apportion.specs.declared.Carries.{Carries}
 use Rattle.apportion.specs.Filled.{Filled}
-use Rattle.apportion.specs.Good.{Good, Ready, Next, shareIn, extraAfter, figureAfter}
+use Rattle.apportion.specs.Good.{Ready, Next, shareIn, extraAfter, figureAfter}
 use Rattle.apportion.specs.Parts.{grownBy, quotientBy, restBy, figureBy, SmallParts}
 use Rattle.apportion.proofs.Arrays.{filled-as}
 use Rattle.rules.specs.Distributed.{roundedDown, remainder, leftOver, comesBefore, rank, oneEach, runningSum}
 use Rattle.rules.specs.Flows.{W}
-use Rattle.rules.specs.Limits.{greatestW, greatestResidual}
+use Rattle.rules.specs.Limits.{greatestW}
 use Rattle.rules.specs.Words.{sum, count, at}
 use Rattle.rules.proofs.Demand3.{running-adds-up}
 use Rattle.rules.proofs.Integers.{minus-cong}

@@ -1,9 +1,8 @@
 -- Sizes of what a distance is made of.
-use Prim.Native.Nat.{ℕ, _*_, _≤_, _<_}
+use Prim.Native.Nat.{ℕ, _*_, _≤_}
 use native.Mathlib.Nat.{mul-le-mul-right}
 use native.Mathlib.Omega.{arith}
 use Rattle.distances.specs.Extremes.{Near}
-use Rattle.rules.specs.Limits.{greatestW}
 
 -- one Wh at most
 pub at-most-w : {extra remainder w : ℕ} → Near extra remainder w → extra * w ≤ w

@@ -2,7 +2,7 @@
 use mathlib.Core.Bool.{Bool, true, false}
 use mathlib.Core.List.{List}
 use mathlib.Core.Path.{_≡_, sym, _∙_, ap, ap₂}
-use Prim.Native.Nat.{ℕ, _+_, _*_, _≤_, _<_}
+use Prim.Native.Nat.{ℕ, _+_, _*_, _<_}
 use native.Mathlib.Omega.{arith}
 use lib.IntN.{ℤ, pos, _-ℤ_, _*ℤ_}
 use Rattle.apportion.specs.Filled.{Filled}
@@ -12,7 +12,7 @@ use Rattle.apportion.proofs.Arrays.{filled-as}
 use Rattle.distances.specs.declared.Distances.{Distances}
 use Rattle.distances.specs.Extremes.{distanceIn, distanceOf, distanceBy, Near, smallerIn, largerIn, smallestWith, largestWith, With}
 use Rattle.rules.specs.Demands.{exactShare}
-use Rattle.rules.specs.Distributed.{roundedDown, remainder, leftOver, oneEach, runningSum}
+use Rattle.rules.specs.Distributed.{roundedDown, remainder, leftOver, runningSum}
 use Rattle.rules.specs.Flows.{W}
 use Rattle.rules.specs.HoursReport.{smaller, larger}
 use Rattle.rules.specs.Services.{atℤ}

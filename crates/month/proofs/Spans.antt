@@ -9,7 +9,7 @@ use Rattle.month_file.specs.declared.Sections.{Sections}
 use Rattle.month_file.proofs.AcceptedFile.{parties-are}
 use Rattle.month_hours.proofs.Bounds.{few-parties, some-party}
 use Rattle.rules.specs.Month.{monthOf}
-use Rattle.rules.specs.MonthFile.{MonthFile, H, P}
+use Rattle.rules.specs.MonthFile.{H, P}
 
 module _ {file : List ℕ} {s : Sections} {applied curveNumbers beginnings : List ℕ} (known : MonthKnown file s applied curveNumbers beginnings) where
   n-is : s .heading .parties ≡ P (monthOf file)

@@ -1,6 +1,5 @@
 -- "10 by hour; 13 by reading": of hours that are judged, the curve service refuses nothing but 10, and its figures are the month's curve.
-use mathlib.Core.Bool.{true, _&&_}
-use mathlib.Core.List.{List, [], _∷_}
+use mathlib.Core.List.{List}
 use mathlib.Core.Path.{_≡_, refl, sym, _∙_, ap, ap₂}
 use Prim.Native.Nat.{ℕ, suc, _≤_, _<_}
 use native.Mathlib.Omega.{arith}
@@ -20,16 +19,11 @@ use Rattle.rules.specs.Month.{monthOf, fixedWh, monthW, curve, curveVerdict, re
 use Rattle.rules.specs.MonthFile.{MonthFile, H}
 use Rattle.rules.specs.Refusals.{wrongLength, outOfRange, wOutOfRange, residualTooLarge, curveTooLarge, Verdict, accepted, refused, unless, andThen, first, inTurn, afterwards}
 use Rattle.rules.specs.Services.{eachAt, checkAt, curveFits, curveChecks, curveAt, curveFigures}
-use Rattle.rules.specs.Words.{sum, at, atMost, within, figures}
-use Rattle.rules.proofs.Loops.{figures-length, figures-at, figures-cong}
+use Rattle.rules.specs.Words.{at, atMost, within, figures}
+use Rattle.rules.proofs.Loops.{figures-length, figures-at, figures-cong, in-turn-cong}
 use Rattle.rules.proofs.Month.{W-in-range, heading-right, fixed-hours-have}
 use Rattle.rules.proofs.Refusals.{refused-not-accepted, in-turn-exactly, then-accepted}
 use Rattle.rules.proofs.Sums.{sum-cong}
-
--- the same checks under another name
-pub in-turn-cong : (n : ℕ) {f g : ℕ → Verdict} → ((i : ℕ) → i < n → f i ≡ g i) → inTurn n f ≡ inTurn n g
-unfolding inTurn
-in-turn-cong n {f} {g} same = ap first (figures-cong n {f = f} {g = g} same)
 
 module _ {file : List ℕ} {s : Sections} {fixed : List ℕ} {w lent beginnings : ℕ} (asked : CurveAsked file s fixed w lent beginnings) where
   abbrev m : MonthFile

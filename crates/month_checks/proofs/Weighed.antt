@@ -1,6 +1,6 @@
 -- "Then 6": W by the shares that were read, before the two series.
 use mathlib.Core.List.{List}
-use mathlib.Core.Path.{_≡_, refl, sym, _∙_, ap, ap₂}
+use mathlib.Core.Path.{_≡_, sym, _∙_, ap}
 use Prim.Native.Nat.{ℕ, _≤_, _<_}
 use native.Mathlib.Omega.{arith}
 use lib.ListN.{length}
@@ -14,7 +14,6 @@ use Rattle.month_file.specs.declared.Sections.{Sections}
 use Rattle.month_file.proofs.AcceptedFile.{month-whole}
 use Rattle.month_series.specs.Series.{judgedVerdict}
 use Rattle.month_series.specs.declared.Judged.{Judged}
-use Rattle.month_series.specs.declared.Judged.the-variants.{Figures}
 use Rattle.month_checks.specs.Checks.{seriesVerdict, hoursVerdict, BothKnown, SeriesKnown}
 use Rattle.rules.specs.Flows.{W}
 use Rattle.rules.specs.Limits.{greatestW, greatestShare, mostParties}

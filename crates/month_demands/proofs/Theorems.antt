@@ -3,7 +3,7 @@ use mathlib.Core.Bool.{Bool, true, false}
 use mathlib.Core.List.{List}
 use mathlib.Core.Logic.{_↔_}
 use mathlib.Core.Path.{_≡_, refl, sym, _∙_, ap, ap₂}
-use Prim.Native.Nat.{ℕ, zero, suc, _+_, _<_}
+use Prim.Native.Nat.{ℕ, _<_}
 use native.Mathlib.Nat.{zero-add}
 use lib.IntN.{ℤ, pos}
 use lib.ListN.{length}
@@ -27,7 +27,7 @@ use Rattle.rules.proofs.Loops.{figures-length, figures-at}
 use Rattle.rules.proofs.Month.{Judged, accepted-is-judged, heading-right, W-in-range, fixed-hours-have, every-hour-has-its-figure, demand-3-of-the-month, hour-differences-add-up, all-distributed, all-differences, all-amounts}
 use Rattle.rules.proofs.Reconciliation.{one-carries-the-loss}
 use Rattle.rules.proofs.Refusals.{refused-not-accepted, accepted-exactly, refused-exactly, both-accept, unless-exactly}
-use Rattle.rules.proofs.Sums.{sum-cong, sum-add, sum-zero}
+use Rattle.rules.proofs.Sums.{sum-cong, sum-swap}
 use Rattle.rules.proofs.Whole.{what-is-read-is-whole}
 
 -- The verdict can be read back from what an answer tells.
@@ -108,12 +108,6 @@ module _ (file : List ℕ) (d₀ : List ℤ) (p₀ : List ℕ) (l₀ x₀ a₀ :
         ap verdictFor (h .read)
         ∙ ap₂ (λ (u : Verdict) (right : Bool). andThen u (unless right wrongLength 0)) (accepted-exactly (monthChecks (h .month)) .1 (h .no-check-refuses)) (h .lent-wrong)
         ∙ ap₂ refused (sym (h .is-16)) (sym (h .at-0))
-
--- by hour and then by party is by party and then by hour
-sum-swap : (n h : ℕ) (f : ℕ → ℕ → ℕ) → sum n (λ i. sum h (λ t. f t i)) ≡ sum h (λ t. sum n (f t))
-unfolding sum
-sum-swap zero h f = sym (sum-zero h (λ t b. refl))
-sum-swap (suc n) h f = ap (λ (k : ℕ). k + sum h (λ t. f t n)) (sum-swap n h f) ∙ sym (sum-add h (λ t. sum n (f t)) (λ t. f t n))
 
 -- A list that holds the figures of a column: each figure, and their sum.
 signed-at : (n : ℕ) (f : ℕ → ℤ) {held : List ℤ} → held ≡ figures n f → (i : ℕ) → i < n → atℤ held i ≡ f i

@@ -1,11 +1,10 @@
 -- The checks of a month one after the other: one before the hours refuses, or an hour, or the numbers are the month's.
 use mathlib.Core.List.{List}
 use mathlib.Core.Path.{_≡_, sym, _∙_, ap}
-use Prim.Native.Nat.{ℕ, suc, _-_, _≤_, _<_}
+use Prim.Native.Nat.{ℕ, suc, _-_}
 use native.Mathlib.Nat.{le-refl}
 use native.Mathlib.Omega.{arith}
 use lib.IntN.{ℤ}
-use lib.ListN.{length}
 use Rattle.answer.specs.Said.{said}
 use Rattle.answer.specs.declared.Answer.the-variants.{Done, Refused}
 use Rattle.answer.specs.declared.Refusal.{Refusal}
@@ -15,7 +14,7 @@ use Rattle.month_checks.specs.Checks.{MadeIs}
 use Rattle.month_checks.specs.declared.Made.{Made}
 use Rattle.month_file.specs.declared.Sections.{Sections}
 use Rattle.month_file.proofs.AcceptedFile.{hours-are}
-use Rattle.month_hourly.specs.Hourly.{HourlyAsked, HourlyMade, HourlyIs}
+use Rattle.month_hourly.specs.Hourly.{HourlyAsked, HourlyIs}
 use Rattle.month_hourly.specs.Passing.{SumsLent, MonthPassed}
 use Rattle.month_hourly.specs.declared.Passed.{Passed}
 use Rattle.month_hourly.proofs.OneHour.{w-is}

@@ -1,15 +1,15 @@
 -- One hour of a month passed: its sums are the next ones, and its distances are the smallest or the largest so far where they are.
 use mathlib.Core.List.{List}
 use mathlib.Core.Path.{_≡_, refl, sym, _∙_, ap, ap₂, subst}
-use Prim.Native.Nat.{ℕ, zero, suc, _+_, _*_, _≤_, _<_}
+use Prim.Native.Nat.{ℕ, zero, suc, _+_, _*_, _<_}
 use native.Mathlib.Numerals.{add-one}
 use native.Mathlib.Omega.{arith}
 use borrow.Author.Tests.{ne-eqb}
 use lib.Dec.{eqb, lit<}
 use lib.IntN.{ℤ, pos, _-ℤ_, _*ℤ_}
-use lib.ListN.{length, set}
+use lib.ListN.{length}
 use Rattle.apportion.specs.Filled.{Filled}
-use Rattle.apportion.specs.Good.{Next, shareIn}
+use Rattle.apportion.specs.Good.{Next}
 use Rattle.apportion.specs.declared.Carries.{Carries}
 use Rattle.apportion.proofs.Arrays.{filled-as}
 use Rattle.apportion.proofs.Hours.{running-same}
@@ -22,12 +22,10 @@ use Rattle.month_hour.proofs.Totals.{summable, sum-is}
 use Rattle.month_hourly.specs.Passing.{HourAsked, HourPassed, Measured, PassedTo}
 use Rattle.month_hourly.specs.declared.Standing.{Standing}
 use Rattle.month_file.specs.declared.Sections.{Sections}
-use Rattle.month_hours.specs.Hours.{HourKnown, WindowKnown, Carried}
+use Rattle.month_hours.specs.Hours.{HourKnown, Carried}
 use Rattle.month_hours.proofs.Bounds.{few-parties, distributed-fits}
 use Rattle.month_hours.proofs.Carrying as C
-use Rattle.month_hours.proofs.Windows.{hour-readable}
 use Rattle.rules.specs.Demands.{exactShare}
-use Rattle.rules.specs.Distributed.{runningSum}
 use Rattle.rules.specs.Flows.{W}
 use Rattle.rules.specs.HoursReport.{allDistributed, distanceAfter, distanceAt, smaller, larger, smallest, largest, smallestDistance, largestDistance}
 use Rattle.rules.specs.Month.{monthOf, shareOf, monthW, appliedWh, distributed, allPeriodised}

@@ -1,18 +1,18 @@
 -- The windows of a month, and the hours of each: the hours before are passed, and each window takes the next ones.
 use mathlib.Core.List.{List}
 use mathlib.Core.Path.{_≡_, refl, sym, _∙_, ap, subst}
-use Prim.Native.Nat.{ℕ, suc, _+_, _-_, _/_, _≤_, _<_, min, zero-le}
+use Prim.Native.Nat.{ℕ, _+_, _-_, _/_, _≤_, _<_, min, zero-le}
 use native.Mathlib.Nat.{add-zero, add-assoc, le-antisymm}
 use native.Mathlib.Omega.{arith}
-use lib.IntN.{ℤ, pos}
+use lib.IntN.{ℤ}
 use lib.ListN.{length, getD}
-use Rattle.answer.specs.Said.{said, named}
+use Rattle.answer.specs.Said.{said}
 use Rattle.answer.specs.declared.Answer.{Answer}
 use Rattle.answer.specs.declared.Answer.the-variants.{Done, Refused}
 use Rattle.answer.specs.declared.Refusal.{Refusal}
 use Rattle.apportion.specs.declared.Carries.{Carries}
 use Rattle.distances.specs.Extremes.{noDistances}
-use Rattle.month.specs.Windows.{MonthKnown, Span, Beginning, windowPlaces, verdictFrom}
+use Rattle.month.specs.Windows.{MonthKnown, Beginning, windowPlaces, verdictFrom}
 use Rattle.month.proofs.AllWindows.{passed-on, refused-here, inside}
 use Rattle.month_file.specs.declared.Sections.{Sections}
 use Rattle.month_file.proofs.AcceptedFile.{hours-are}
@@ -26,7 +26,7 @@ use Rattle.month_hours.proofs.Windows.{hour-readable, hour-known}
 use Rattle.rules.specs.HoursReport.{allDistributed}
 use Rattle.rules.specs.Month.{monthOf, allPeriodised, periodisedVerdict}
 use Rattle.rules.specs.MonthFile.{MonthFile, H}
-use Rattle.rules.specs.Refusals.{Verdict, accepted, first, inTurn}
+use Rattle.rules.specs.Refusals.{accepted, first, inTurn}
 use Rattle.rules.specs.Words.{figures}
 use Rattle.rules.proofs.Loops.{fill-start}
 use Rattle.rules.proofs.Refusals.{refused-not-accepted}

@@ -4,7 +4,7 @@ use mathlib.Core.Path.{_≡_}
 use Prim.Native.Nat.{ℕ, suc, _+_, _-_, _<_}
 use lib.Dec.{eqb}
 use lib.IntN.{ℤ, pos}
-use lib.ListN.{length, set}
+use lib.ListN.{set}
 use Rattle.answer.specs.Said.{said}
 use Rattle.apportion.specs.Filled.{Filled}
 use Rattle.apportion.specs.Good.{Ready, Next}

@@ -1,11 +1,10 @@
 -- The hours of a window: which of them are refused with 14, and what is known of each for its settling.
 use mathlib.Core.List.{List}
 use mathlib.Core.Path.{_≡_, refl, sym, _∙_, ap, subst}
-use Prim.Native.Nat.{ℕ, zero, suc, _+_, _-_, _*_, _≤_, _<_}
+use Prim.Native.Nat.{ℕ, _+_, _-_, _≤_, _<_}
 use native.Mathlib.Nat.{le-of-eq, add-zero, add-assoc}
 use native.Mathlib.Omega.{arith}
 use borrow.Author.Tests.{le-leb, lt-leb}
-use lib.Dec.{leb}
 use lib.ListN.{length, getD}
 use Rattle.month_hour.specs.Column.{column, Column, EachInHour, addable}
 use Rattle.month_file.specs.declared.Sections.{Sections}
@@ -13,9 +12,9 @@ use Rattle.month_hours.specs.declared.State.{State}
 use Rattle.month_hours.specs.Hours.{windowVerdict, Readable, HourKnown, WindowKnown, After}
 use Rattle.rules.specs.Limits.{greatestPeriodised}
 use Rattle.rules.specs.Month.{monthOf, appliedWh}
-use Rattle.rules.specs.MonthFile.{H, P}
+use Rattle.rules.specs.MonthFile.{H}
 use Rattle.rules.specs.Refusals.{periodisedTooLarge, accepted, refused, unless}
-use Rattle.rules.specs.Words.{sum, at, figures}
+use Rattle.rules.specs.Words.{sum}
 use Rattle.rules.proofs.Loops.{figures-length, figures-at}
 
 pub hour-readable : {window : List ℕ} {n hours start k : ℕ} → Readable window n hours start → k < hours → Column window hours k n × EachInHour addable window hours k n

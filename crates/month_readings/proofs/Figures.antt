@@ -16,7 +16,7 @@ use Rattle.rules.specs.Periodised.{sumSoFar, periodisedFigure}
 use Rattle.rules.specs.Record.{Reading}
 use Rattle.rules.specs.Words.{sum}
 use Rattle.rules.proofs.LargestRemainder.{less-cases}
-use Rattle.rules.proofs.Sums.{sum-cong, sum-split}
+use Rattle.rules.proofs.Sums.{sum-cong}
 
 -- what the curve weighs between two hours
 pub between : (weight : ℕ → ℕ) {a b : ℕ} → a ≤ b → beginning weight b - beginning weight a ≡ sum (b - a) (λ k. weight (a + k))

@@ -6,14 +6,15 @@ use native.Mathlib.Omega.{arith}
 use lib.ListN.{length}
 use Rattle.apportion.specs.Filled.{Filled}
 use Rattle.apportion.specs.declared.Carries.{Carries}
-use Rattle.apportion.proofs.Arrays.{filled-as}
 use Rattle.month.specs.Windows.{Beginning}
 use Rattle.month_file.specs.declared.Sections.{Sections}
+use Rattle.month_hours.specs.Hours.{Carried}
 use Rattle.month_hours.proofs.Bounds.{few-hours}
-use Rattle.month_run_hours.specs.Running.{Carried, Steppable, Stepped, RunKnown}
+use Rattle.month_hours.proofs.Carrying.{carried-start}
+use Rattle.month_run_hours.specs.Running.{Steppable, Stepped, RunKnown}
 use Rattle.rules.specs.Month.{monthOf, shareOf, appliedWh}
 use Rattle.rules.specs.MonthFile.{MonthFile, H, P}
-use Rattle.rules.specs.Words.{at, figures}
+use Rattle.rules.specs.Words.{at}
 use Rattle.rules.proofs.Loops.{figures-length, figures-at}
 use Rattle.rules.proofs.Month.{applied-in-range}
 use Rattle.rules.proofs.Sums.{sum-cong}
@@ -31,13 +32,9 @@ module _ {file : List ℕ} {s : Sections} {applied numbers begun : List ℕ} (kn
   steppable =
       record { good = begins .started .good; none-yet = begins .started .sum; there = omega (arith, inside, ap length (known .month .applied-is), figures-length (H m) (appliedWh m)); short = omega (arith, inside, few-hours m (known .month .judged)); fit = λ u b. omega (arith, applied-at u (omega (arith, inside)), applied-in-range m (known .month .judged) u (omega (arith, inside))) }
 
-  shares-many : length (figures (P m) (shareOf m)) ≡ P m
-  shares-many = figures-length (P m) (shareOf m)
-
-  share-at : (i : ℕ) → i < P m → at (figures (P m) (shareOf m)) i ≡ shareOf m i
-  unfolding at
-  share-at i b = figures-at (P m) (shareOf m) i 0 b
+  none-yet : Carried m 0 c
+  none-yet = carried-start m (begins .started)
 
   pub carried : {r : Carries} → Stepped c applied start r → Carried m start r
   carried {r} taken =
-      record { good = taken .good; parties = taken .parties ∙ begins .started .parties ∙ shares-many; share = subst (λ (l : List ℕ). Filled 0 (shareOf m) (P m) l) (sym (taken .share)) (filled-as (subst (λ (n : ℕ). Filled 0 (at (figures (P m) (shareOf m))) n (c .share)) shares-many (begins .started .share)) share-at); residuals = taken .residuals-sum ∙ sum-cong start (λ u b. applied-at u (omega (arith, inside))) }
+      record { good = taken .good; parties = taken .parties ∙ none-yet .parties; share = subst (λ (l : List ℕ). Filled 0 (shareOf m) (P m) l) (sym (taken .share)) (none-yet .share); residuals = taken .residuals-sum ∙ sum-cong start (λ u b. applied-at u (omega (arith, inside))) }

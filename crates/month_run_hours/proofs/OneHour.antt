@@ -11,11 +11,11 @@ use Rattle.apportion.specs.declared.Carries.{Carries}
 use Rattle.month_file.specs.declared.Sections.{Sections}
 use Rattle.month_file.proofs.AcceptedFile.{parties-are}
 use Rattle.month_hour.specs.declared.Settled.{Settled}
-use Rattle.month_hours.specs.Hours.{HourKnown, DistributedIs, SettledIs}
+use Rattle.month_hours.specs.Hours.{HourKnown, DistributedIs, SettledIs, Carried}
 use Rattle.month_hours.proofs.Bounds.{few-parties}
+use Rattle.month_hours.proofs.Carrying as C
 use Rattle.month_run_hours.specs.InRun.{distributedInRun, periodisedInRun, differenceInRun, lossInRun}
-use Rattle.month_run_hours.specs.Running.{Carried, Running, HourLent, HourWritten}
-use Rattle.month_run_hours.proofs.Carrying as C
+use Rattle.month_run_hours.specs.Running.{Running, HourLent, HourWritten}
 use Rattle.rules.specs.Month.{monthOf, distributed, periodised, difference, loss}
 use Rattle.rules.specs.MonthFile.{MonthFile, P}
 use Rattle.rules.proofs.Loops.{Filling, fill-next}

@@ -1,23 +1,25 @@
 -- The windows of a run, and the hours of each: the hours before are written, and each window takes the next ones.
 use mathlib.Core.List.{List}
-use mathlib.Core.Path.{_≡_, refl, sym, _∙_, ap, subst}
+use mathlib.Core.Path.{_≡_, refl, sym, ap, subst}
 use Prim.Native.Nat.{ℕ, _+_, _-_, _*_, _/_, _≤_, _<_, min, zero-le}
-use native.Mathlib.Nat.{add-zero, add-assoc, zero-mul, le-trans, le-antisymm, mul-le-mul-left, div-mul-le-self, le-div-iff-mul-le}
+use native.Mathlib.Nat.{add-zero, add-assoc, zero-mul, le-antisymm}
 use native.Mathlib.Omega.{arith}
 use lib.IntN.{ℤ}
 use lib.ListN.{length, getD}
 use Rattle.apportion.specs.declared.Carries.{Carries}
 use Rattle.month.specs.Windows.{Span, windowPlaces}
 use Rattle.month.proofs.OneWindow as W
+use Rattle.month.proofs.Spans as S
+use Rattle.month.proofs.Spans.{hours-left}
 use Rattle.month_file.specs.declared.Sections.{Sections}
 use Rattle.month_file.proofs.AcceptedFile.{month-whole, parties-are}
 use Rattle.month_hour.specs.Column.{column}
-use Rattle.month_hours.specs.Hours.{Readable, HourKnown, WindowKnown}
-use Rattle.month_hours.proofs.Bounds.{few-hours, few-parties, some-party}
+use Rattle.month_hours.specs.Hours.{Readable, HourKnown, WindowKnown, Carried}
+use Rattle.month_hours.proofs.Bounds.{few-hours}
 use Rattle.month_hours.proofs.Windows.{applied-long, hour-known}
 use Rattle.month_readings.specs.Window.{Window}
 use Rattle.month_run_hours.specs.InRun.{distributedInRun, periodisedInRun, differenceInRun, lossInRun}
-use Rattle.month_run_hours.specs.Running.{Carried, RunKnown, RunLent, Running, RunIs}
+use Rattle.month_run_hours.specs.Running.{RunKnown, RunLent, Running, RunIs}
 use Rattle.rules.specs.Month.{monthOf}
 use Rattle.rules.specs.MonthFile.{MonthFile, H, P}
 use Rattle.rules.proofs.Loops.{fill-start, fill-end}
@@ -69,9 +71,6 @@ module _ {file : List ℕ} {s : Sections} {applied curveNumbers beginnings : Lis
   n-is : s .heading .parties ≡ P (monthOf file)
   n-is = parties-are file s (known .month .accepted)
 
-  pub some : 0 < s .heading .parties
-  some = omega (arith, n-is, some-party (monthOf file) (known .month .judged))
-
   module _ {start hours lent : ℕ} (span : Span file start hours lent) where
     pub window-known : {window : List ℕ} → Window (monthOf file) start hours window → WindowKnown file s applied window start hours
     unfolding column
@@ -90,38 +89,18 @@ module _ {m : MonthFile} {start : ℕ} {d : List ℤ} {p : List ℕ} {x l : List
       record { bound = zero-le; size = e; running = record { carried = subst (λ (t : ℕ). Carried m t c) (sym (add-zero start)) carried; distributed = rw (zero-mul (P m)) (fill-start (distributedInRun m start) (lent .distributed-size)); periodised = rw (zero-mul (P m)) (fill-start (periodisedInRun m start) (lent .periodised-size)); differences = rw (zero-mul (P m)) (fill-start (differenceInRun m start) (lent .differences-size)); losses = fill-start (lossInRun m start) refl } }
 
 module _ {file : List ℕ} {s : Sections} {applied curveNumbers beginnings : List ℕ} (known : RunKnown file s applied curveNumbers beginnings) {start all : ℕ} (inside : start + all ≤ H (monthOf file)) {done : ℕ} {c : Carries} {window : List ℕ} {d : List ℤ} {p : List ℕ} {x l : List ℤ} (g : Windowing (monthOf file) start all done c window d p x l) where
-  -- the next window has so many hours as fit its places, and no more than are left
   module _ (b : done < all) {hours : ℕ} (taken : hours ≡ min (windowPlaces / s .heading .parties) (all - done)) where
-    at-most : (hours ≤ windowPlaces / s .heading .parties) × (hours ≤ all - done)
-    at-most = (omega (arith, taken), omega (arith, taken))
-
-    pub places-fit : s .heading .parties * hours ≤ windowPlaces
-    places-fit =
-        le-trans (mul-le-mul-left (s .heading .parties) (at-most .0))
-        (omega (arith, div-mul-le-self windowPlaces (s .heading .parties)))
-
-    wide : 1 ≤ windowPlaces / s .heading .parties
-    wide =
-        le-div-iff-mul-le (some known) .1 (omega (arith, n-is known, few-parties (monthOf file) (known .month .judged)))
-
-    pub hours-some : 0 < hours
-    hours-some = omega (arith, wide, taken)
-
-    pub hours-left : done + hours ≤ all
-    hours-left = omega (arith, at-most .1)
+    left : done + hours ≤ all
+    left = hours-left (known .month) b taken
 
     pub short : start + done + hours ≤ 745
-    short = omega (arith, hours-left, inside, few-hours (monthOf file) (known .month .judged))
-
-    pub part-fits : s .heading .parties * hours ≤ length window
-    part-fits = omega (arith, places-fit, g .size)
+    short = omega (arith, left, inside, few-hours (monthOf file) (known .month .judged))
 
     pub spans : {lent : ℕ} → lent ≡ s .heading .parties * hours → Span file (start + done) hours lent
-    spans {lent} e =
-        record { inside = omega (arith, hours-left, inside); size = e ∙ ap (λ (n : ℕ). n * hours) (n-is known); short = omega (arith, e, places-fit) }
+    spans e = S.spans (known .month) b taken (omega (arith, left, inside)) e
 
     pub left-here : done + hours ≤ length l
-    left-here = omega (arith, hours-left, g .running .losses .size)
+    left-here = omega (arith, left, g .running .losses .size)
 
     pub running-now : Running (monthOf file) start (length l) done c d p x l
     running-now = lengthwise (g .running)
@@ -132,7 +111,7 @@ module _ {file : List ℕ} {s : Sections} {applied curveNumbers beginnings : Lis
         → Running (monthOf file) start (length l) (done + hours) c′ d′ p′ x′ l′
         → Windowing (monthOf file) start all (done + hours) c′ window′ d′ p′ x′ l′
     windows-next {c′} {window′} {d′} {p′} {x′} {l′} e r =
-        record { bound = hours-left; size = e; running = subst (λ (h : ℕ). Running (monthOf file) start h (done + hours) c′ d′ p′ x′ l′) (g .running .losses .size) r }
+        record { bound = left; size = e; running = subst (λ (h : ℕ). Running (monthOf file) start h (done + hours) c′ d′ p′ x′ l′) (g .running .losses .size) r }
 
   pub windows-end : all ≤ done → RunIs (monthOf file) start all d p x l
   windows-end b =

@@ -4,26 +4,19 @@ use mathlib.Core.Path.{_≡_}
 use Prim.Native.Nat.{ℕ, _+_, _*_, _≤_, _<_}
 use lib.IntN.{ℤ, pos}
 use lib.ListN.{length, getD, set}
-use Rattle.apportion.specs.Filled.{Filled}
 use Rattle.apportion.specs.Good.{Good}
 use Rattle.apportion.specs.declared.Carries.{Carries}
 use Rattle.month.specs.Windows.{MonthKnown}
 use Rattle.month_file.specs.declared.Sections.{Sections}
 use Rattle.month_hour.specs.declared.Settled.{Settled}
+use Rattle.month_hours.specs.Hours.{Carried}
 use Rattle.month_run_hours.specs.InRun.{distributedInRun, periodisedInRun, differenceInRun, lossInRun}
 use Rattle.rules.specs.Limits.{greatestResidual, mostHours}
-use Rattle.rules.specs.Month.{monthOf, shareOf, appliedWh, monthVerdict}
+use Rattle.rules.specs.Month.{monthOf, monthVerdict}
 use Rattle.rules.specs.MonthFile.{MonthFile, H, P}
 use Rattle.rules.specs.Refusals.{accepted}
 use Rattle.rules.specs.Words.{sum, at, figures}
 use Rattle.rules.proofs.Loops.{Filling}
-
--- THE STATE BETWEEN HOURS: the carries of the first t residuals of the month
-pub record Carried (m : MonthFile) (t : ℕ) (c : Carries) : Type 0 where
-  pub good : Good c
-  pub parties : c .parties ≡ P m
-  pub share : Filled 0 (shareOf m) (P m) (c .share)
-  pub residuals : c .«sum_wh» ≡ sum t (appliedWh m)
 
 -- carries that can take the first t of these residuals
 pub record Steppable (c : Carries) (residuals : List ℕ) (t : ℕ) : Type 0 where

@@ -9,8 +9,8 @@ ghost use Prim.Native.Nat.{_+_, _≤_, _<_};
 ghost use lib.IntN.{pos};
 ghost use lib.ListN.{length, set};
 ghost use Rattle.month.specs.Windows.{Span, Beginning, windowPlaces};
-ghost use Rattle.month_hours.specs.Hours.{HourKnown, WindowKnown};
-ghost use Rattle.month_run_hours.specs.Running.{Carried, Steppable, Stepped, RunKnown, RunLent, FilledOn, Running, HourLent, HourWritten, RunIs};
+ghost use Rattle.month_hours.specs.Hours.{HourKnown, WindowKnown, Carried};
+ghost use Rattle.month_run_hours.specs.Running.{Steppable, Stepped, RunKnown, RunLent, FilledOn, Running, HourLent, HourWritten, RunIs};
 ghost use Rattle.rules.specs.Month.{monthOf};
 
 // An hour's figures of either sign into a lent output, from a place on.

@@ -2,18 +2,15 @@
 use mathlib.Core.List.{List, [], _∷_, _++_}
 use mathlib.Core.Path.{_≡_, refl, sym, _∙_, ap, ap₂}
 use Prim.Native.Nat.{ℕ, suc, _+_, _-_, _/_, _%_, _≤_, _<_, zero-le}
-use native.Mathlib.Nat.{add-zero, add-suc, suc-add}
+use native.Mathlib.Nat.{add-zero, add-suc}
 use native.Mathlib.Numerals.{add-one}
 use native.Mathlib.Omega.{arith}
 use lib.ListN.{length, getD, drop, set, length-set, drop-of-length-le}
 use lib.Seq.{sets, length-sets, drop-cons, set-comm}
 use Rattle.record_write.specs.Fields.{glue, total}
 use Rattle.rules.specs.Record.{bytesOf}
+use Rattle.rules.proofs.Lines.{sets-append}
 use Rattle.rules.proofs.RoundTrip.{bytes-length}
-
-pub sets-append : (d : List ℕ) (p : ℕ) (xs ys : List ℕ) → sets d p (xs ++ ys) ≡ sets (sets d p xs) (p + length xs) ys
-sets-append d p [] ys = rw (add-zero p)
-sets-append d p (x ∷ xs) ys = rw (add-suc p (length xs)) (rw (suc-add p (length xs)) at (sets-append (set d p x) (suc p) xs ys))
 
 -- the last byte first
 sets-last : (d : List ℕ) (p : ℕ) (xs : List ℕ) (x : ℕ) → sets d p (xs ++ (x ∷ [])) ≡ sets (set d (p + length xs) x) p xs
@@ -92,7 +89,7 @@ module _ {d₀ ws vs d : List ℕ} {p i : ℕ} (h : Gluing d₀ ws vs d p i) (b 
         room = omega (arith, room-after);
         same = s ∙ h .same;
         done = ap₂ (λ (x : List ℕ) (m : ℕ). sets x (p + m) (glue (drop (suc i) ws) (drop (suc i) vs))) e (sym l)
-            ∙ sym (sets-append d p (bytesOf (getD ws i 0) (getD vs i 0)) (glue (drop (suc i) ws) (drop (suc i) vs)))
+            ∙ (sets-append d p (bytesOf (getD ws i 0) (getD vs i 0)) (glue (drop (suc i) ws) (drop (suc i) vs)))
             ∙ ap₂ (λ (x y : List ℕ). sets d p (glue x y)) (sym width-here) (sym value-here)
             ∙ h .done;
       })

@@ -1,6 +1,6 @@
 -- A record's bytes are its fields glued together, each in its width, after its kind.
 use mathlib.Core.List.{List, [], _∷_, _++_, append-assoc, append-nil}
-use mathlib.Core.Path.{_≡_, sym, _∙_, ap}
+use mathlib.Core.Path.{_≡_, _∙_, ap}
 use Prim.Native.Nat.{ℕ, _%_, _<_}
 use native.Mathlib.Omega.{arith}
 use lib.IntN.{ℤ}
@@ -12,7 +12,7 @@ use mir.Val.{SFits, toZ, ofZ}
 use Rattle.record_write.specs.Fields.{glue, uncomplemented}
 use Rattle.rules.specs.Flows.{Flows}
 use Rattle.rules.specs.Record.{Heading, Reading, heading, party, reading, price, end, bytesOf, recordBytes, flowsBytes}
-use Rattle.record_write.proofs.Bytes.{sets-append}
+use Rattle.rules.proofs.Lines.{sets-append}
 use Rattle.record_write.proofs.Complement.{unsigned-4, unsigned-8}
 
 -- one byte stands for itself
@@ -55,4 +55,4 @@ unfolding recordBytes
 party-put gln share e d {a} {b} {c} p q r =
     r ∙ ap (λ (l : List ℕ). sets l 14 (bytesOf 8 share)) (q ∙ ap (λ (l : List ℕ). sets l 1 gln) (p ∙ ap (sets d 0) (one-byte 2 (omega arith))))
     ∙ ap (λ (k : ℕ). sets (sets (sets d 0 (2 ∷ [])) 1 gln) k (bytesOf 8 share)) (omega (arith, e))
-    ∙ sym (sets-append (sets d 0 (2 ∷ [])) 1 gln (bytesOf 8 share))
+    ∙ (sets-append (sets d 0 (2 ∷ [])) 1 gln (bytesOf 8 share))

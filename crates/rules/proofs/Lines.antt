@@ -1,8 +1,10 @@
--- Lines one after the other: with one line more, and made in two runs.
+-- Texts one after the other: put into a buffer, with one line more, and made in two runs.
 use mathlib.Core.List.{List, [], _∷_, _++_, append-assoc, append-nil}
 use mathlib.Core.Path.{_≡_, sym, _∙_, ap}
 use Prim.Native.Nat.{ℕ, zero, suc, _+_}
-use native.Mathlib.Nat.{add-zero, add-suc}
+use native.Mathlib.Nat.{add-zero, add-suc, suc-add}
+use lib.ListN.{length, set}
+use lib.Seq.{sets}
 use Rattle.rules.specs.Statement.{joined}
 use Rattle.rules.specs.Words.{figures}
 
@@ -20,3 +22,8 @@ lines-in-two a (suc b) line =
     ∙ ap (λ (t : List ℕ). t ++ line (a + b)) (lines-in-two a b line)
     ∙ append-assoc (joined (figures a line)) (joined (figures b (λ t. line (a + t)))) (line (a + b))
     ∙ ap (λ (t : List ℕ). joined (figures a line) ++ t) (sym (joined-last (figures b (λ t. line (a + t))) (line (a + b))))
+
+-- two texts put one after the other are both put at once
+pub sets-append : (d : List ℕ) (p : ℕ) (xs ys : List ℕ) → sets (sets d p xs) (p + length xs) ys ≡ sets d p (xs ++ ys)
+sets-append d p [] ys = rw (add-zero p)
+sets-append d p (x ∷ xs) ys = rw (add-suc p (length xs)) (rw (suc-add p (length xs)) at (sets-append (set d p x) (suc p) xs ys))

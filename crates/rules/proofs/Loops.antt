@@ -104,3 +104,23 @@ pub fill-end : {A : Type 0} {f : ℕ → A} {n : ℕ} {out : List A} {i : ℕ} �
 fill-end {f = f} {n = n} {out = out} {i = i} l b =
     let e : i ≡ n = omega (arith, l .bound) in
     sym (take-all i out (omega (arith, l .size))) ∙ l .done ∙ ap (λ (k : ℕ). figures k f) e
+
+-- Checks in turn: the same under another name; the last of n + 1 comes after the n before it; those of a + b places are those of the first a, and then those of
+-- the b after them.
+pub in-turn-cong : (n : ℕ) {f g : ℕ → Verdict} → ((i : ℕ) → i < n → f i ≡ g i) → inTurn n f ≡ inTurn n g
+unfolding inTurn
+in-turn-cong n {f} {g} same = ap first (figures-cong n {f = f} {g = g} same)
+
+in-turn-last : (check : ℕ → Verdict) (n : ℕ) → inTurn (suc n) check ≡ andThen (inTurn n check) (check n)
+unfolding inTurn figures first
+in-turn-last check n =
+    first-append (figures n check) (check n ∷ []) ∙ ap (andThen (first (figures n check))) (then-accepted (check n))
+
+pub in-turn-split : (check : ℕ → Verdict) (a b : ℕ) → inTurn (a + b) check ≡ andThen (inTurn a check) (inTurn b (λ k. check (a + k)))
+unfolding inTurn figures first
+in-turn-split check a zero = rw (add-zero a) (sym (then-accepted (inTurn a check)))
+in-turn-split check a (suc b) =
+    rw (add-suc a b)
+    (in-turn-last check (a + b) ∙ ap (λ (v : Verdict). andThen v (check (a + b))) (in-turn-split check a b)
+    ∙ sym (then-assoc (inTurn a check) (inTurn b (λ k. check (a + k))) (check (a + b)))
+    ∙ ap (andThen (inTurn a check)) (sym (in-turn-last (λ k. check (a + k)) b)))

@@ -1,5 +1,5 @@
 -- Laws of `sum`: each by one induction on how many figures are added.
-use mathlib.Core.Path.{_≡_, refl, sym}
+use mathlib.Core.Path.{_≡_, refl, sym, _∙_, ap}
 use Prim.Native.Nat.{ℕ, zero, suc, _+_, _*_, _≤_, _<_}
 use mathlib.Core.Logic.{⊎-elim}
 use native.Mathlib.Nat.{le-refl, zero-mul, add-suc, add-zero, eq-or-lt-of-le, le-of-suc-le-suc}
@@ -55,3 +55,9 @@ pub sum-split : (a b : ℕ) (f : ℕ → ℕ) → sum (a + b) f ≡ sum a f + su
 unfolding sum
 sum-split a zero f = rw (add-zero a) (omega arith)
 sum-split a (suc b) f = rw add-suc (omega (arith, sum-split a b f))
+
+-- by hour and then by party is by party and then by hour
+pub sum-swap : (n h : ℕ) (f : ℕ → ℕ → ℕ) → sum n (λ i. sum h (λ t. f t i)) ≡ sum h (λ t. sum n (f t))
+unfolding sum
+sum-swap zero h f = sym (sum-zero h (λ t b. refl))
+sum-swap (suc n) h f = ap (λ (k : ℕ). k + sum h (λ t. f t n)) (sum-swap n h f) ∙ sym (sum-add h (λ t. sum n (f t)) (λ t. f t n))

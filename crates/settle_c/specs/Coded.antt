@@ -2,7 +2,7 @@
 use mathlib.Core.Bool.{cond}
 use Prim.Native.Nat.{ℕ, _+_, _*_}
 use lib.Dec.{leb}
-use Rattle.rules.specs.Refusals.{Refusal, Verdict, accepted, refused, numberOf}
+use Rattle.rules.specs.Refusals.{Verdict, accepted, refused, numberOf}
 
 -- 2 ^ 56 - 1: up to this place number + 256 x place is within 64 bits
 abbrev pub greatestPlace : ℕ

@@ -1,8 +1,7 @@
 -- No second result fits: what `statement` promises leaves one answer, and one content of the lent buffer.
 use mathlib.Core.List.{List}
-use mathlib.Core.Path.{_≡_, refl, sym, _∙_, ap}
+use mathlib.Core.Path.{_≡_, sym, _∙_, ap}
 use Prim.Native.Nat.{ℕ}
-use native.Mathlib.Omega.{arith}
 use Rattle.answer.specs.Said.{named}
 use Rattle.answer.proofs.Said.{named-once}
 use Rattle.rules.specs.Refusals as R

@@ -1,17 +1,14 @@
 -- Texts put one after the other: two puts are the put of the appended text, and one byte more is such a put.
 use mathlib.Core.List.{List, [], _∷_, _++_}
 use mathlib.Core.Path.{_≡_, refl, sym, _∙_, ap, ap₂}
-use Prim.Native.Nat.{ℕ, suc, _+_, _≤_, _<_, zero-le}
-use native.Mathlib.Nat.{zero-add, add-zero, add-suc, suc-add}
+use Prim.Native.Nat.{ℕ, _+_, _≤_, _<_, zero-le}
+use native.Mathlib.Nat.{zero-add, add-zero}
 use native.Mathlib.Numerals.{add-one}
 use native.Mathlib.Omega.{arith}
 use lib.ListN.{length, getD, take, drop, set, length-append}
 use lib.Seq.{sets, sets-eq, length-sets, take-suc, take-all}
+use Rattle.rules.proofs.Lines.{sets-append}
 use Rattle.text.specs.Text.{Put}
-
-sets-append : (d : List ℕ) (p : ℕ) (xs ys : List ℕ) → sets (sets d p xs) (p + length xs) ys ≡ sets d p (xs ++ ys)
-sets-append d p [] ys = rw (add-zero p)
-sets-append d p (x ∷ xs) ys = rw (add-suc p (length xs)) (rw (suc-add p (length xs)) at (sets-append (set d p x) (suc p) xs ys))
 
 -- nothing is put where the buffer stays as it is
 pub put-none : (d : List ℕ) (p : ℕ) → Put [] d p d p

@@ -1,17 +1,15 @@
--- The refusal line: how long its parts are, its text from the texts put one after the other, and what is promised of a buffer with room and of one without.
+-- The refusal line: how long its parts are, and its text from the texts put one after the other.
 use mathlib.Core.List.{List, _++_, append-assoc}
-use mathlib.Core.Path.{_≡_, refl, _∙_, ap}
+use mathlib.Core.Path.{_≡_}
 use Prim.Native.Nat.{ℕ, _≤_, _<_}
-use native.Mathlib.Nat.{zero-add}
 use native.Mathlib.Omega.{arith}
-use borrow.Author.Tests.{le-leb, lt-leb}
 use lib.ListN.{length, length-append}
-use Rattle.rules.specs.Refusals.{Refusal, fileFault, unknownKind, outOfOrder, outOfRange, glnFault, wOutOfRange, missingHour, residualNegative, residualTooLarge, curveTooLarge, spanFault, energyTooLarge, nothingToFollow, periodisedTooLarge, wrongCount, wrongLength, numberOf, Answer, given, refusal, unless, answer, afterwards}
+use Rattle.rules.specs.Refusals.{Refusal, fileFault, unknownKind, outOfOrder, outOfRange, glnFault, wOutOfRange, missingHour, residualNegative, residualTooLarge, curveTooLarge, spanFault, energyTooLarge, nothingToFollow, periodisedTooLarge, wrongCount, wrongLength, numberOf}
 use Rattle.rules.specs.Statement.{decimal, newline, refusalLine}
 use Rattle.rules.specs.Words.{ascii}
-use Rattle.text.specs.Text.{Put, longestRefusalLine, roomForRefusal, atStart}
+use Rattle.text.specs.Text.{Put}
 use Rattle.text.proofs.Digits.{decimal-at-most}
-use Rattle.text.proofs.Puts.{put-then, put-as, put-at-start}
+use Rattle.text.proofs.Puts.{put-then, put-as}
 
 two-digits : (r : Refusal) → numberOf r < 100
 two-digits fileFault = omega arith
@@ -42,20 +40,3 @@ module _ (r : Refusal) {n : ℕ} (number : n ≡ numberOf r) {b m : List ℕ} {q
       → Put (refusalLine r place) b 0 a e
   unfolding refusalLine
   refusal-text place k l = put-as (rw number (simp append-assoc)) (put-then (put-then h k) l)
-
--- what the writer of a text that fits into the longest refusal line promises: its answer, and what the buffer then holds
-abbrev pub Promised : List ℕ → List ℕ → Answer ℕ → List ℕ → Type 0
-Promised text out a after =
-    (a ≡ answer (roomForRefusal out) (length text)) × (after ≡ afterwards (roomForRefusal out) (atStart text out) out)
-
-module _ (text out : List ℕ) where
-  pub too-short : length out < longestRefusalLine → Promised text out (refusal wrongLength 0) out
-  unfolding roomForRefusal unless answer afterwards
-  too-short h = rw (lt-leb longestRefusalLine (length out) h) (refl, refl)
-
-  pub has-room : longestRefusalLine ≤ length out → {after : List ℕ} {end : ℕ} → Put text out 0 after end → end ≤ longestRefusalLine
-      → Promised text out (given end) after
-  unfolding roomForRefusal unless answer afterwards atStart
-  has-room h put within =
-      rw (le-leb longestRefusalLine (length out) h)
-      (ap given (put .ends ∙ zero-add (length text)), put-at-start put (omega arith))

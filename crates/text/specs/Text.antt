@@ -1,15 +1,10 @@
--- What putting a text into a lent buffer means, the room that each line takes, and what the writer of the refusal line tells (01 "The statement program").
+-- What putting a text into a lent buffer means, and the room that each line takes (01 "The statement program").
 -- The texts themselves stand in the rules.
 use mathlib.Core.List.{List, _++_}
 use mathlib.Core.Path.{_≡_}
 use Prim.Native.Nat.{ℕ, _+_, _≤_}
-use lib.Dec.{leb}
 use lib.ListN.{length, drop}
 use lib.Seq.{sets}
-use Rattle.answer.specs.Said.{named}
-use Rattle.rules.specs.Refusals.{wrongLength, Verdict, Answer, given, refusal, unless}
-use Rattle.text.specs.declared.Written.{Written}
-use Rattle.text.specs.declared.Written.the-variants.{Bytes, Refused}
 
 -- a text stands in a buffer from a place on, and nothing else in it was touched; the place after the text is told
 pub record Put (text before : List ℕ) (place : ℕ) (after : List ℕ) (end : ℕ) : Type 0 where
@@ -56,15 +51,6 @@ columnsRoom = 119
 abbrev pub longestRefusalLine : ℕ
 longestRefusalLine = 35
 
--- 16, "a lent output is not of the needed length": a buffer too short for the longest refusal line
-unfoldable pub roomForRefusal : List ℕ → Verdict
-roomForRefusal lent = unless (leb longestRefusalLine (length lent)) wrongLength 0
-
 -- a text at the start of a lent buffer, "nothing further on touched"
 unfoldable pub atStart : List ℕ → List ℕ → List ℕ
 atStart text lent = text ++ drop (length text) lent
-
--- what writing a line tells
-abbrev pub told : Written → Answer ℕ
-told (Bytes n) = given n
-told (Refused r place) = refusal (named r) place

@@ -7,24 +7,14 @@ ghost use Prim.Native.Nat.{_+_, _%_, _≤_, _<_};
 ghost use lib.IntN.{natAbs};
 ghost use lib.ListN.{length};
 ghost use Rattle.answer.specs.Said.{named};
-ghost use Rattle.rules.specs.Refusals.{answer, afterwards};
 ghost use Rattle.rules.specs.Statement.{decimal, signedDecimal, digitsOfWidth, newline, refusalLine, headingText, columnsLine};
 ghost use Rattle.rules.specs.Words.{ascii};
-ghost use Rattle.text.specs.Text.{Put, mostDigits, areaMonthRoom, countsRoom, headingRoom, longestName, columnRoom, nameEnergiesRoom, resultsRoom, columnsRoom, longestRefusalLine, roomForRefusal, atStart, told};
-
-// What writing a line into a lent buffer gives: the number of bytes, or the refusal.
-pub enum Written {
-    Bytes(usize),
-    Refused(Refusal, usize),
-}
+ghost use Rattle.text.specs.Text.{Put, mostDigits, areaMonthRoom, countsRoom, headingRoom, longestName, columnRoom, nameEnergiesRoom, resultsRoom, columnsRoom, longestRefusalLine};
 
 // The most bytes of a heading line and of a line of columns, as specs/Text.antt adds them up: a caller lends no less.
 pub const HEADING_ROOM: usize = 120;
 
 pub const COLUMNS_ROOM: usize = 119;
-
-// The most bytes of a refusal line: "refused " 8, its number 2, " at " 4, the place 20 (a place is a number of 64 bits), and the newline 1.
-pub const LONGEST_REFUSAL_LINE: usize = 35;
 
 // The last digit of a number.
 fn put_digit(out: &mut [u8], place: usize, n: u64) -> usize
@@ -215,7 +205,7 @@ pub fn columns_line(
     put_results(out, results, loss_wh, difference_wh, ore)
 }
 
-// The refusal line at the start of a buffer that is known to have room for the longest.
+// THE REFUSAL LINE: "On refusal it prints one line, `refused N at P`." It stands at the start of a buffer that has room for the longest.
 pub fn put_refusal(refusal: Refusal, place: usize, out: &mut [u8]) -> usize
     requires { ⌜ longestRefusalLine ≤ length (now out) ⌝ }
     ensures text { λ end. ⌜ Put (refusalLine (named refusal) place) (now (out .entry)) 0 (now (out .exit)) end ⌝ }
@@ -225,16 +215,4 @@ pub fn put_refusal(refusal: Refusal, place: usize, out: &mut [u8]) -> usize
     let after_number = put_word_number(out, 0, b"refused ", number);
     let after_place = put_word_number(out, after_number, b" at ", place as u64);
     put_bytes(out, after_place, b"\n")
-}
-
-// THE REFUSAL LINE: "On refusal it prints one line, `refused N at P`." It stands at the start of the lent buffer, and the bytes after it are kept; a buffer
-// too short for the longest refusal line is refused with 16.
-pub fn refusal_line(refusal: Refusal, place: usize, out: &mut [u8]) -> Written
-    ensures answer { λ w. ⌜ told w ≡ answer (roomForRefusal (now (out .entry))) (length (refusalLine (named refusal) place)) ⌝ }
-    ensures contents { λ w. ⌜ now (out .exit) ≡ afterwards (roomForRefusal (now (out .entry))) (atStart (refusalLine (named refusal) place) (now (out .entry))) (now (out .entry)) ⌝ }
-{
-    if out.len() < LONGEST_REFUSAL_LINE {
-        return Written::Refused(Refusal::WrongLength, 0);
-    }
-    Written::Bytes(put_refusal(refusal, place, out))
 }

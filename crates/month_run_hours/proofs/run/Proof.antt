@@ -1,7 +1,6 @@
 -- `month_run_hours::run` meets its contract: the carries are handed on to the run, and then it is written. Assumes nothing.
 use native.Mathlib.Omega.{arith}
 use Rattle.month_run_hours.proofs.Handing.{steppable, carried}
-use borrow.Author.Needs.{needs}
 use Rattle.month_run_hours.proofs.run.Statement.{statement}
 use Rattle.month_run_hours.proofs.run.Tie as tie
 

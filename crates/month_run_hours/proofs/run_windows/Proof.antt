@@ -4,7 +4,8 @@ use native.Mathlib.Omega.{arith}
 use mathlib.Core.Path.{sym, _∙_}
 use Rattle.rules.specs.Month.{monthOf}
 use lib.ListN.{length}
-use Rattle.month_run_hours.proofs.Windows.{Windowing, some, windows-start, places-fit, hours-some, short, part-fits, spans, left-here, running-now, windows-next, windows-end}
+use Rattle.month.proofs.Spans.{some, places-fit, hours-some}
+use Rattle.month_run_hours.proofs.Windows.{Windowing, windows-start, short, spans, left-here, running-now, windows-next, windows-end}
 use borrow.Author.Needs.{needs}
 use Rattle.month_run_hours.proofs.run_windows.Statement.{statement}
 use Rattle.month_run_hours.proofs.run_windows.Tie as tie
@@ -19,7 +20,7 @@ cast-n : tie.Need-cast-n Inv-loop μ-loop
 cast-n c = search needs
 
 div-span : tie.Need-div-span Inv-loop μ-loop
-div-span c = some (c .before .before .before .before .before .before .before .pre .0)
+div-span c = some (c .before .before .before .before .before .before .before .pre .0 .month)
 
 loop-holds : tie.Need-loop-holds Inv-loop μ-loop
 loop-holds c = windows-start (c .before .before .before .before .before .before .before .pre .1 .1 .1) (c .before .before .before .before .before .before .before .pre .1 .0) (c .before .before .before .before .before .before .before .pre .1 .1 .0)
@@ -31,7 +32,7 @@ earlier-requires : tie.Need-earlier-requires Inv-loop μ-loop
 earlier-requires c κs = search needs
 
 mul-run-window : tie.Need-mul-run-window Inv-loop μ-loop
-mul-run-window c = omega (arith, places-fit (c .before .before .before .before .before .before .before .before .before .before .pre .0) (c .before .before .before .before .before .before .before .before .before .before .pre .1 .1 .1 .inside) (c .before .before .loop .inv) (omega arith) (c .earlier .ensures))
+mul-run-window c = omega (arith, places-fit (c .before .before .before .before .before .before .before .before .before .before .pre .0 .month) (omega arith) (c .earlier .ensures))
 
 sub-run-window : tie.Need-sub-run-window Inv-loop μ-loop
 sub-run-window c = search needs
@@ -40,7 +41,7 @@ part-run-window-start : tie.Need-part-run-window-start Inv-loop μ-loop
 part-run-window-start c = search needs
 
 part-run-window-end : tie.Need-part-run-window-end Inv-loop μ-loop
-part-run-window-end c = part-fits (c .before .before .before .before .before .before .before .before .before .before .pre .0) (c .before .before .before .before .before .before .before .before .before .before .pre .1 .1 .1 .inside) (c .before .before .loop .inv) (omega arith) (c .earlier .ensures)
+part-run-window-end c = omega (arith, places-fit (c .before .before .before .before .before .before .before .before .before .before .pre .0 .month) (omega arith) (c .earlier .ensures), c .before .before .loop .inv .size)
 
 run-window-requires : tie.Need-run-window-requires Inv-loop μ-loop
 run-window-requires c κs = (c .before .before .before .before .before .before .before .before .before .before .before .before .before .before .before .pre .0, (spans (c .before .before .before .before .before .before .before .before .before .before .before .before .before .before .before .pre .0) (c .before .before .before .before .before .before .before .before .before .before .before .before .before .before .before .pre .1 .1 .1 .inside) (c .before .before .before .before .before .before .before .loop .inv) (omega arith) (c .before .before .before .before .before .earlier .ensures) (search needs), (left-here (c .before .before .before .before .before .before .before .before .before .before .before .before .before .before .before .pre .0) (c .before .before .before .before .before .before .before .before .before .before .before .before .before .before .before .pre .1 .1 .1 .inside) (c .before .before .before .before .before .before .before .loop .inv) (omega arith) (c .before .before .before .before .before .earlier .ensures), running-now (c .before .before .before .before .before .before .before .before .before .before .before .before .before .before .before .pre .0) (c .before .before .before .before .before .before .before .before .before .before .before .before .before .before .before .pre .1 .1 .1 .inside) (c .before .before .before .before .before .before .before .loop .inv) (omega arith) (c .before .before .before .before .before .earlier .ensures))))
@@ -49,7 +50,7 @@ add-done : tie.Need-add-done Inv-loop μ-loop
 add-done c = omega (arith, short (c .before .before .before .before .before .before .before .before .before .before .before .before .before .before .before .before .before .before .before .before .before .before .before .pre .0) (c .before .before .before .before .before .before .before .before .before .before .before .before .before .before .before .before .before .before .before .before .before .before .before .pre .1 .1 .1 .inside) (c .before .before .before .before .before .before .before .before .before .before .before .before .before .before .before .loop .inv) (omega arith) (c .before .before .before .before .before .before .before .before .before .before .before .before .before .earlier .ensures))
 
 loop-less : tie.Need-loop-less Inv-loop μ-loop
-loop-less c = omega (arith, hours-some (c .before .before .before .before .before .before .before .before .before .before .before .before .before .before .before .before .before .before .before .before .before .before .before .pre .0) (c .before .before .before .before .before .before .before .before .before .before .before .before .before .before .before .before .before .before .before .before .before .before .before .pre .1 .1 .1 .inside) (c .before .before .before .before .before .before .before .before .before .before .before .before .before .before .before .loop .inv) (omega arith) (c .before .before .before .before .before .before .before .before .before .before .before .before .before .earlier .ensures))
+loop-less c = omega (arith, hours-some (c .before .before .before .before .before .before .before .before .before .before .before .before .before .before .before .before .before .before .before .before .before .before .before .pre .0 .month) (omega arith) (c .before .before .before .before .before .before .before .before .before .before .before .before .before .earlier .ensures))
 
 loop-again : tie.Need-loop-again Inv-loop μ-loop
 loop-again c = windows-next (c .before .before .before .before .before .before .before .before .before .before .before .before .before .before .before .before .before .before .before .before .before .before .before .pre .0) (c .before .before .before .before .before .before .before .before .before .before .before .before .before .before .before .before .before .before .before .before .before .before .before .pre .1 .1 .1 .inside) (c .before .before .before .before .before .before .before .before .before .before .before .before .before .before .before .loop .inv) (omega arith) (c .before .before .before .before .before .before .before .before .before .before .before .before .before .earlier .ensures) (c .before .before .before .before .before .before .window .given .1 ∙ c .before .before .before .before .before .before .before .before .before .before .before .before .before .before .before .loop .inv .size) (c .before .before .before .before .before .before .before .run-window .ensures)

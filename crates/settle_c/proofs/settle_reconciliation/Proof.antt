@@ -1,5 +1,5 @@
 -- `settle_c::settle_reconciliation` meets its contract: the service answers by its checks, and only an accepted hour has a loss to hand on. Assumes nothing.
-use mathlib.Core.Path.{_≡_, _∙_, subst}
+use mathlib.Core.Path.{_∙_, subst}
 use lib.IntN.{ℤ}
 use mir.Facts.{toZ-ofZ}
 use mir.Syntax.{w64}

@@ -1,0 +1,164 @@
+-- "that no second result fits is itself proved" (01, "What a proof here has to say"): for every public service, in one place. A result is the answer together
+-- with what each lent buffer holds after the call; that no second one fits means that two results which both meet the promise are equal. The promise is
+-- what the function's `ensures` says, in its own words.
+use mathlib.Core.Bool.{Bool}
+use mathlib.Core.List.{List}
+use mathlib.Core.Path.{_≡_}
+use Prim.Native.Nat.{ℕ}
+use denote.Ref.{RefT, now}
+use lib.IntN.{ℤ}
+use lib.ListN.{length, drop}
+use Rattle.answer.specs.Said.{named, said}
+use Rattle.answer.specs.declared.Answer.{Answer}
+use Rattle.answer.specs.declared.Refusal.{Refusal}
+use Rattle.file_reader.specs.Walk.{placeAfter}
+use Rattle.file_reader.specs.declared.Reader.{Reader}
+use Rattle.gln.specs.Gln.{glnAnswer, glnPart}
+use Rattle.gln.specs.declared.Gln.{Gln}
+use Rattle.hours_text.specs.Reporting as Report
+use Rattle.hours_text.specs.declared.Reported.{Reported}
+use Rattle.month.specs.Told as Month
+use Rattle.month.specs.declared.Settlement.{Settlement}
+use Rattle.month_file.specs.Walk as File
+use Rattle.month_file.specs.declared.MonthRead.{MonthRead}
+use Rattle.month_run.specs.Run as Run
+use Rattle.reconcile.specs.Told as Hour
+use Rattle.reconcile.specs.declared.Reconciled.{Reconciled}
+use Rattle.record.specs.Record.{recordOf, faultOf, glnIn, glnBytes, told}
+use Rattle.record.specs.declared.Read.{Read}
+use Rattle.record.specs.declared.Record.{Record}
+use Rattle.record_plain.specs.Plain.{plainVerdict, plainRecord}
+use Rattle.record_write.specs.Writing.{wrote}
+use Rattle.record_write.specs.declared.Written.{Written}
+use Rattle.residual.specs.Applied.{appliedOf}
+use Rattle.residual.specs.Hour.{judgement}
+use Rattle.residual.specs.declared.Hour as Judged
+use Rattle.rules.specs.Flows.{judgedBy}
+use Rattle.rules.specs.MonthFile.{readMonth}
+use Rattle.rules.specs.Reconciliation.{lossOf, invoiceOre}
+use Rattle.rules.specs.Record.{bodyLength, recordBytes, readAlone, writeVerdict, written}
+use Rattle.rules.specs.Refusals.{Verdict, numberOf, first, afterwards, answer}
+use Rattle.rules.specs.Services.{eachAt, residualChecks, residualFigures, curveChecks, curveFigures, distributionChecks, distributionFigures, periodisationChecks, periodisationFigures, reconciliationChecks, reconciliationLoss, reconciliationDifferences, reconciliationAmounts}
+use Rattle.rules.specs.Words.{atMost}
+use Rattle.settle_c.specs.Coded.{coded, kept}
+use Rattle.statement_text.specs.Stating as Statement
+use Rattle.statement_text.specs.declared.Stated.{Stated}
+
+-- no second result fits a promise
+unfoldable pub OneFits : {Result : Type 0} → (Result → Type 0) → Type 0
+OneFits {Result} promise = (r s : Result) → promise r → promise s → r ≡ s
+
+-- a verdict's answer, with what a lent list then holds
+unfoldable pub Answered : {A : Type 0} → Verdict → List A → List A → Answer × List A → Type 0
+Answered verdict figures lent r = (said (r .0) ≡ verdict) × (r .1 ≡ afterwards (said (r .0)) figures lent)
+
+-- THE SERVICES OF SETTLEMENT, each alone
+pub record Services : Type 0 where
+  pub residual :
+      (statuses : List ℕ) (nets : List ℤ) (productions hourlies flexes lent : List ℕ)
+      → OneFits
+      (Answered (first (residualChecks statuses nets productions hourlies flexes (length lent)))
+      (residualFigures statuses nets productions hourlies flexes) lent)
+  pub judge : (status : ℕ) (wh : ℤ) → OneFits (λ (r : Judged.Hour). judgement r ≡ judgedBy status wh)
+  pub applied : (fixed refixed : List ℕ) (hasRefixed : Bool) → OneFits (λ (r : List ℕ). r ≡ appliedOf fixed refixed hasRefixed)
+  pub curve :
+      (residuals : List ℕ) (w : ℕ) (lent : List ℕ)
+      → OneFits (Answered (first (curveChecks residuals w (length lent))) (curveFigures residuals w) lent)
+  pub distribution :
+      (shares residuals : List ℕ) (lent : List ℤ)
+      → OneFits (Answered (first (distributionChecks shares residuals (length lent))) (distributionFigures shares residuals) lent)
+  pub periodisation :
+      (e : ℕ) (weights lent : List ℕ)
+      → OneFits (Answered (first (periodisationChecks e weights (length lent))) (periodisationFigures e weights) lent)
+  pub reconciliation :
+      (residual : ℕ) (distributed : List ℤ) (periodised : List ℕ) (carrier : ℕ) (price : ℤ) (differences amounts : List ℤ)
+      → OneFits
+      (λ (r : Reconciled × List ℤ × List ℤ).
+      (Hour.verdict (r .0) ≡ first (reconciliationChecks residual distributed periodised carrier price (length differences) (length amounts)))
+      × (Hour.told (r .0) ≡ answer (Hour.verdict (r .0)) (reconciliationLoss residual periodised))
+      × (r .1 ≡ afterwards (Hour.verdict (r .0)) (reconciliationDifferences residual distributed periodised carrier) differences)
+      × (r .2 ≡ afterwards (Hour.verdict (r .0)) (reconciliationAmounts (reconciliationDifferences residual distributed periodised carrier) price) amounts))
+  pub loss-of : (party carrier : ℕ) (loss : ℤ) → OneFits (λ (r : ℤ). r ≡ lossOf carrier loss party)
+  pub invoice-ore : (amount : ℤ) → OneFits (λ (r : ℤ). r ≡ invoiceOre amount)
+
+-- THE SAME FOR C: a number for the answer
+pub record ServicesForC : Type 0 where
+  -- one promise for the four services that lend one list
+  pub answered : {A : Type 0} (verdict : Verdict) (figures lent : List A) → OneFits (λ (r : ℕ × List A). (r .0 ≡ coded verdict) × (r .1 ≡ afterwards verdict figures lent))
+  pub reconciliation :
+      (verdict : Verdict) (loss lentLoss : ℤ) (differences lentDifferences amounts lentAmounts : List ℤ)
+      → OneFits
+      (λ (r : ℕ × ℤ × List ℤ × List ℤ).
+      (r .0 ≡ coded verdict)
+      × (r .1 ≡ kept verdict loss lentLoss)
+      × (r .2 ≡ afterwards verdict differences lentDifferences)
+      × (r .3 ≡ afterwards verdict amounts lentAmounts))
+
+-- ONE RECORD
+pub record Records : Type 0 where
+  pub gln-check : (part : List ℕ) → OneFits (λ (r : Gln). r ≡ glnAnswer part)
+  pub gln-part-at : (file : List ℕ) (at : ℕ) → OneFits (λ (r : List ℕ). r ≡ glnPart file at)
+  pub body-length : (kind : ℕ) → OneFits (λ (r : ℕ). r ≡ bodyLength kind)
+  pub gln-in : (part : List ℕ) (r : Record) → OneFits (λ (g : Gln). g ≡ glnIn part r)
+  pub fault :
+      (r : Record) (gln : Gln) (hours parties place : ℕ) → OneFits (λ (a : Answer). said a ≡ faultOf hours parties r gln place)
+  pub read-alone : (part : List ℕ) → OneFits (λ (r : Read). told (glnBytes part) r ≡ readAlone part)
+  pub write :
+      (r : Record) (gln lent : List ℕ)
+      → OneFits
+      (λ (w : Written × List ℕ).
+      (wrote (w .0) ≡ answer (writeVerdict (recordOf gln r) (length lent)) (length (recordBytes (recordOf gln r))))
+      × (w .1 ≡ afterwards (writeVerdict (recordOf gln r) (length lent)) (written (recordOf gln r) lent) lent))
+  pub write-plain :
+      (kind : ℕ) (numbers : List ℤ) (gln lent : List ℕ)
+      → OneFits
+      (λ (w : Written × List ℕ).
+      (wrote (w .0) ≡ answer (plainVerdict kind numbers gln (length lent)) (length (recordBytes (recordOf gln (plainRecord kind numbers)))))
+      × (w .1 ≡ afterwards (plainVerdict kind numbers gln (length lent)) (written (recordOf gln (plainRecord kind numbers)) lent) lent))
+
+-- A READER GOES THROUGH THE FILE RECORD BY RECORD
+pub record Walks : Type 0 where
+  pub record-here :
+      (file : List ℕ) (at : ℕ) → OneFits (λ (r : Read). told (glnBytes (drop at file)) r ≡ readAlone (drop at file))
+  pub gln-after-kind : (file : List ℕ) (at : ℕ) → OneFits (λ (r : List ℕ). r ≡ glnBytes (drop at file))
+  pub after : (file : List ℕ) (at : ℕ) → OneFits (λ (r : ℕ). r ≡ placeAfter file at)
+  pub new : (file : RefT (List ℕ)) → OneFits (λ (r : Reader). (r .file ≡ file) × (r .at ≡ 0))
+  pub next :
+      (r : Reader) → OneFits (λ (x : Read). told (glnBytes (drop (r .at) (now (r .file)))) x ≡ readAlone (drop (r .at) (now (r .file))))
+  -- of the part that comes back, the bytes
+  pub gln-here : (r : Reader) → OneFits (λ (bytes : List ℕ). bytes ≡ glnBytes (drop (r .at) (now (r .file))))
+  pub moved : (r : Reader) → OneFits (λ (q : Reader). (q .file ≡ r .file) × (q .at ≡ placeAfter (now (r .file)) (r .at)))
+  pub first-record : (file : List ℕ) → OneFits (λ (r : Read). told (glnBytes file) r ≡ readAlone file)
+
+-- A WHOLE FILE: its reading, its settlement, the hours of a run, its two texts
+pub record WholeFiles : Type 0 where
+  pub month-file-read : (file : List ℕ) → OneFits (λ (r : MonthRead). File.told r ≡ File.readAnswer (readMonth file))
+  pub month-settle :
+      (file : List ℕ) (d₀ : List ℤ) (p₀ : List ℕ) (l₀ x₀ a₀ : List ℤ)
+      → OneFits
+      (λ (r : Settlement × List ℤ × List ℕ × List ℤ × List ℤ × List ℤ).
+      Month.Promised file (r .0) d₀ p₀ l₀ x₀ a₀ (r .1) (r .2) (r .3) (r .4) (r .5))
+  pub month-run-hours :
+      (file : List ℕ) (start hours : ℕ) (d₀ : List ℤ) (p₀ : List ℕ) (x₀ l₀ : List ℤ)
+      → OneFits
+      (λ (r : Answer × List ℤ × List ℕ × List ℤ × List ℤ).
+      Run.Promised file start hours (r .0) d₀ p₀ x₀ l₀ (r .1) (r .2) (r .3) (r .4))
+  pub statement : (file lent : List ℕ) → OneFits (λ (r : Stated × List ℕ). Statement.Promised file lent (r .0) (r .1))
+  pub hours-report :
+      (file first rest parties : List ℕ)
+      → OneFits (λ (r : Reported × List ℕ × List ℕ × List ℕ). Report.Promised file first rest parties (r .0) (r .1) (r .2) (r .3))
+
+-- AND THE ANSWERS THEMSELVES
+pub record Answers : Type 0 where
+  pub number : (r : Refusal) → OneFits (λ (n : ℕ). n ≡ numberOf (named r))
+  pub each-at-most :
+      (values : List ℕ) (most : ℕ) (otherwise : Refusal) → OneFits (λ (r : Answer). said r ≡ eachAt values (atMost most) (named otherwise))
+
+-- NO SECOND RESULT FITS
+pub record NoSecondResult : Type 0 where
+  pub services : Services
+  pub services-for-C : ServicesForC
+  pub records : Records
+  pub walks : Walks
+  pub whole-files : WholeFiles
+  pub answers : Answers
