@@ -69,7 +69,7 @@ pub extern "C" fn settle_distribution(shares: &[u64], residuals: &[u32], out: &m
     ensures answer { λ r. ⌜ r ≡ coded (first (distributionChecks (now (shares .entry)) (now (residuals .entry)) (length (now (out .entry))))) ⌝ }
     ensures contents { λ _. ⌜ now (out .exit) ≡ afterwards (first (distributionChecks (now (shares .entry)) (now (residuals .entry)) (length (now (out .entry))))) (distributionFigures (now (shares .entry)) (now (residuals .entry))) (now (out .entry)) ⌝ }
 {
-    let answered = apportion::distribution(shares, residuals, out);
+    let answered = distribution::distribution(shares, residuals, out);
     code(answered)
 }
 

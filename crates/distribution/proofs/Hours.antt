@@ -1,23 +1,21 @@
 -- The hours of a distribution one after the other: the list is filled hour by hour.
 use mathlib.Core.List.{List}
 use mathlib.Core.Path.{_≡_, refl, sym, _∙_, ap, ap₂, subst}
-use Prim.Native.Nat.{ℕ, zero, suc, _+_, _-_, _*_, _/_, _%_, _≤_, _<_, zero-le}
+use Prim.Native.Nat.{ℕ, zero, suc, _+_, _*_, _/_, _%_, _≤_, _<_, zero-le}
 use native.Mathlib.Nat.{add-zero, zero-mul, add-assoc, le-antisymm, mul-le-mul, mul-le-mul-right, mul-add-div-right, mul-add-mod-self-right, div-eq-of-lt, mod-eq-of-lt}
 use native.Mathlib.Numerals.{add-one}
 use native.Mathlib.Omega.{arith}
 use lib.IntN.{ℤ, pos, _-ℤ_}
 use lib.ListN.{length, getD, set, length-set}
 use Rattle.apportion.specs.declared.Carries.{Carries}
 use Rattle.apportion.specs.Filled.{Filled}
 use Rattle.apportion.specs.Good.{Good, Started, Ready, Next, shareIn, figureAfter}
-use Rattle.apportion.specs.Service.{FilledOn, Distributable}
-use Rattle.apportion.proofs.Step.{one-each-cong}
-use Rattle.rules.specs.Distributed.{roundedDown, remainder, leftOver, oneEach, runningSum, runningAfter, distributedFigure}
-use Rattle.rules.specs.Flows.{W}
+use Rattle.apportion.proofs.Running.{running-same}
+use Rattle.distribution.specs.Service.{FilledOn, Distributable}
+use Rattle.rules.specs.Distributed.{runningAfter, distributedFigure}
 use Rattle.rules.specs.Services.{distributedAt, distributionFigures}
 use Rattle.rules.specs.Words.{sum, at, figures}
 use Rattle.rules.proofs.Loops.{Filling, fill-start, fill-next, fill-end}
-use Rattle.rules.proofs.Sums.{sum-cong}
 
 -- A loop that has put the first i of n figures from a place on.
 pub record Putting (figures : List ℤ) (n place : ℕ) (before : List ℤ) (i : ℕ) (after : List ℤ) : Type 0 where
@@ -46,31 +44,6 @@ pub put-end : {figures : List ℤ} {n place : ℕ} {before : List ℤ} {i : ℕ}
 put-end {figures} {n} {place} {before} {i} {after} p b =
     let e : i ≡ n = le-antisymm (p .bound) b in
     subst (λ (k : ℕ). FilledOn figures k place before after) e (p .put)
-
--- Only the shares of the n parties count.
-module _ (n : ℕ) (f g : ℕ → ℕ) (same : (k : ℕ) → k < n → f k ≡ g k) where
-  w-same : W n f ≡ W n g
-  unfolding W
-  w-same = sum-cong n same
-
-  floor-same : (r k : ℕ) → k < n → roundedDown n f r k ≡ roundedDown n g r k
-  unfolding roundedDown
-  floor-same r k b = ap₂ (λ (s w : ℕ). s * r / w) (same k b) w-same
-
-  remainder-same : (r k : ℕ) → k < n → remainder n f r k ≡ remainder n g r k
-  unfolding remainder
-  remainder-same r k b = ap₂ (λ (s w : ℕ). s * r % w) (same k b) w-same
-
-  left-same : (r : ℕ) → leftOver n f r ≡ leftOver n g r
-  unfolding leftOver
-  left-same r = ap (λ (s : ℕ). r - s) (sum-cong n (floor-same r))
-
-  pub running-same : (r i : ℕ) → i < n → runningSum n f r i ≡ runningSum n g r i
-  unfolding runningSum
-  running-same r i b =
-      ap₂ (λ (x y : ℕ). x + y) (floor-same r i b)
-      (one-each-cong n (leftOver n f r) i (remainder-same r) b
-      ∙ ap (λ (l : ℕ). oneEach n (remainder n g r) l i) (left-same r))
 
 -- The loop over the hours: after t of them the list holds their figures, and the carries are those of their residuals.
 pub record Distributing (shares residuals : List ℕ) (lent : List ℤ) (c : Carries) (place t : ℕ) : Type 0 where

@@ -1,9 +1,9 @@
--- `apportion::lent_right` meets its contract, test by test. Assumes nothing.
-use Rattle.apportion.proofs.Service as S
+-- `distribution::lent_right` meets its contract, test by test. Assumes nothing.
+use Rattle.distribution.proofs.Lengths as S
 use borrow.Author.Needs.{needs}
 use borrow.Author.Needs.{needs}
-use Rattle.apportion.proofs.lent_right.Statement.{statement}
-use Rattle.apportion.proofs.lent_right.Tie as tie
+use Rattle.distribution.proofs.lent_right.Statement.{statement}
+use Rattle.distribution.proofs.lent_right.Tie as tie
 
 returns : tie.Need-returns
 returns c = S.no-parties _ _ _ (c .if1 .taken)

@@ -6,10 +6,9 @@ use Prim.Native.Nat.{ℕ, _+_, _*_, _≤_, _<_}
 use lib.Dec.{eqb}
 use lib.IntN.{ℤ, pos}
 use lib.ListN.{length, getD}
 use Rattle.apportion.specs.Good.{Startable}
-use Rattle.rules.specs.Flows.{W}
-use Rattle.rules.specs.Limits.{mostHours, mostParties, greatestShare, greatestW, greatestResidual}
-use Rattle.rules.specs.Refusals.{outOfRange, wOutOfRange, wrongLength, Verdict, unless, andThen}
+use Rattle.rules.specs.Limits.{mostHours, mostParties, greatestResidual}
+use Rattle.rules.specs.Refusals.{outOfRange, wrongLength, Verdict, unless, andThen}
 use Rattle.rules.specs.Words.{at, within}
 use Rattle.rules.proofs.Loops.{Filling}
 
@@ -18,15 +17,6 @@ unfoldable pub shapeVerdict : ℕ → ℕ → ℕ → Verdict
 shapeVerdict lent parties hours =
     andThen (unless (eqb lent (parties * hours)) wrongLength 0)
     (unless (within 1 mostHours hours && within 1 mostParties parties) outOfRange 0)
-
--- 6
-unfoldable pub wVerdict : List ℕ → Verdict
-wVerdict shares = unless (within 1 greatestW (W (length shares) (at shares))) wOutOfRange 0
-
--- shares that can be added up
-pub record FewShares (shares : List ℕ) : Type 0 where
-  pub few : length shares ≤ mostParties
-  pub fit : (k : ℕ) → k < length shares → at shares k ≤ greatestShare
 
 -- whatever series a list is being filled with, it is filled n places further if the figures are the series'
 abbrev pub FilledOn : List ℤ → ℕ → ℕ → List ℤ → List ℤ → Type 0

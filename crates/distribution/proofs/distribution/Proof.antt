@@ -1,8 +1,8 @@
--- `apportion::distribution` meets its contract: `Passes` says why, pass by pass. Assumes nothing.
-use Rattle.apportion.proofs.Passes as P
+-- `distribution::distribution` meets its contract: `Passes` says why, pass by pass. Assumes nothing.
+use Rattle.distribution.proofs.Passes as P
 use borrow.Author.Needs.{needs}
-use Rattle.apportion.proofs.distribution.Statement.{statement}
-use Rattle.apportion.proofs.distribution.Tie as tie
+use Rattle.distribution.proofs.distribution.Statement.{statement}
+use Rattle.distribution.proofs.distribution.Tie as tie
 
 shape-requires : tie.Need-shape-requires
 shape-requires c κs = search needs

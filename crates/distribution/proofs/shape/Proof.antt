@@ -1,10 +1,10 @@
--- `apportion::shape` meets its contract, exit by exit. Assumes nothing.
-use Rattle.apportion.proofs.Service as S
+-- `distribution::shape` meets its contract, exit by exit. Assumes nothing.
+use Rattle.distribution.proofs.Lengths as S
 use borrow.Author.Needs.{needs}
 use borrow.Author.Tests.{not-true, not-false}
 use borrow.Author.Needs.{needs}
-use Rattle.apportion.proofs.shape.Statement.{statement}
-use Rattle.apportion.proofs.shape.Tie as tie
+use Rattle.distribution.proofs.shape.Statement.{statement}
+use Rattle.distribution.proofs.shape.Tie as tie
 
 lent-right-requires : tie.Need-lent-right-requires
 lent-right-requires c κs = search needs

@@ -1,13 +1,13 @@
--- `apportion::distribute` meets its contract: after t hours the list holds their figures (`Hours`). Assumes nothing.
+-- `distribution::distribute` meets its contract: after t hours the list holds their figures (`Hours`). Assumes nothing.
 use Prim.Native.Nat.{_-_}
-use Rattle.apportion.proofs.Hours as H
-use Rattle.apportion.proofs.Hours.{Distributing}
+use Rattle.distribution.proofs.Hours as H
+use Rattle.distribution.proofs.Hours.{Distributing}
 use borrow.Author.Needs.{needs}
 use lib.ListN.{length}
 use mathlib.Core.Path.{refl, sym, _∙_}
 use native.Mathlib.Omega.{arith}
-use Rattle.apportion.proofs.distribute.Statement.{statement}
-use Rattle.apportion.proofs.distribute.Tie as tie
+use Rattle.distribution.proofs.distribute.Statement.{statement}
+use Rattle.distribution.proofs.distribute.Tie as tie
 
 abbrev Inv-loop : tie.InvT-loop
 Inv-loop shares residuals out₀ n carries₀ place₀ t₀ out carries place t = Distributing shares residuals out carries place t

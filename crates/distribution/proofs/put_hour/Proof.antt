@@ -1,6 +1,6 @@
--- `apportion::put_hour` meets its contract: whatever series the list is filled with, each turn fills one place more. Assumes nothing.
+-- `distribution::put_hour` meets its contract: whatever series the list is filled with, each turn fills one place more. Assumes nothing.
 use Prim.Native.Nat.{_-_}
-use Rattle.apportion.proofs.Hours.{Putting, put-start, put-next, put-end}
+use Rattle.distribution.proofs.Hours.{Putting, put-start, put-next, put-end}
 use borrow.Author.Needs.{needs}
 use lib.IntN.{pos}
 use lib.ListN.{getD}
@@ -8,8 +8,8 @@ use mir.Facts.{toZ-ofZ}
 use mir.Syntax.{w64}
 use mir.Val.{SFits}
 use native.Mathlib.Omega.{arith}
-use Rattle.apportion.proofs.put_hour.Statement.{statement}
-use Rattle.apportion.proofs.put_hour.Tie as tie
+use Rattle.distribution.proofs.put_hour.Statement.{statement}
+use Rattle.distribution.proofs.put_hour.Tie as tie
 
 abbrev Inv-loop : tie.InvT-loop
 Inv-loop figures n out₀ place i₀ out i = Putting figures n place out₀ i out

@@ -12,7 +12,8 @@ use Rattle.answer.specs.Said.{said}
 use Rattle.answer.specs.declared.Answer.{Answer}
 use Rattle.answer.specs.declared.Answer.the-variants.{Done, Refused}
 use Rattle.answer.specs.declared.Refusal.{Refusal}
-use Rattle.apportion.specs.Service.{shapeVerdict, wVerdict, FewShares, Distributable}
+use Rattle.apportion.specs.Shares.{wVerdict, FewShares}
+use Rattle.distribution.specs.Service.{shapeVerdict, Distributable}
 use Rattle.rules.specs.Flows.{W}
 use Rattle.rules.specs.Limits.{mostHours, mostParties, greatestShare, greatestW, greatestResidual}
 use Rattle.rules.specs.Refusals.{outOfRange, residualTooLarge, wrongLength, Verdict, accepted, unless, andThen, first, afterwards}

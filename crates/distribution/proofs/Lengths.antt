@@ -1,20 +1,15 @@
--- The first checks of the distribution service, exit by exit.
+-- The first checks of the distribution service, the lent list's length and H and P, exit by exit.
 use mathlib.Core.Bool.{Bool, true, false, _&&_}
-use mathlib.Core.List.{List}
 use mathlib.Core.Path.{_≡_, refl, sym, _∙_, ap}
-use Prim.Native.Nat.{ℕ, zero, suc, _-_, _*_, _/_, _%_, _≤_, _<_}
+use Prim.Native.Nat.{ℕ, _*_, _/_, _%_, _≤_, _<_}
 use native.Mathlib.Nat.{zero-mul, mul-mod-right, div-add-mod', mul-div-right}
 use native.Mathlib.Omega.{arith}
 use borrow.Author.Tests.{eqb-true, eqb-false, eq-eqb, ne-eqb, lt-leb, le-leb}
 use lib.Dec.{eqb}
-use lib.ListN.{length}
-use Rattle.apportion.specs.Filled.{Filled}
-use Rattle.apportion.specs.Service.{shapeVerdict, wVerdict, FewShares}
-use Rattle.rules.specs.Flows.{W}
+use Rattle.distribution.specs.Service.{shapeVerdict}
 use Rattle.rules.specs.Limits.{mostHours, mostParties}
-use Rattle.rules.specs.Refusals.{outOfRange, wOutOfRange, wrongLength, accepted, refused, unless, andThen}
-use Rattle.rules.specs.Words.{sum, at, within}
-use Rattle.rules.proofs.Sums.{sum-cong, sum-le, sum-scale}
+use Rattle.rules.specs.Refusals.{outOfRange, wrongLength, accepted, refused, unless, andThen}
+use Rattle.rules.specs.Words.{within}
 
 -- two tests of equality that hold together
 same-test : (a b c d : ℕ) → (a ≡ b → c ≡ d) → (c ≡ d → a ≡ b) → eqb a b ≡ eqb c d
@@ -65,44 +60,3 @@ module _ (lent parties hours : ℕ) where
     pub shape-right : right ≡ true → 1 ≤ hours → hours ≤ 745 → 1 ≤ parties → parties ≤ 64 → accepted ≡ shapeVerdict lent parties hours
     unfolding unless within
     shape-right e a b c d = shape-rest e true (rw (le-leb 1 hours a, le-leb hours 745 b, le-leb 1 parties c, le-leb parties 64 d))
-
-ones-add-up : (n : ℕ) → sum n (λ k. 1) ≡ n
-unfolding sum
-ones-add-up zero = refl
-ones-add-up (suc n) = omega (arith, ones-add-up n)
-
-module _ (shares : List ℕ) (few : FewShares shares) (share : List ℕ) (filled : Filled 0 (at shares) (length shares) share) where
-  same-sum : sum (length shares) (at share) ≡ W (length shares) (at shares)
-  unfolding W at
-  same-sum = sum-cong (length shares) (λ k b. filled .below k b)
-
-  w-at-most : W (length shares) (at shares) ≤ 64 * 4000000000
-  unfolding W
-  w-at-most =
-      let each : sum (length shares) (at shares) ≤ sum (length shares) (λ k. 1 * 4000000000) = sum-le (length shares) (λ k b. few .fit k b) in
-      let all : sum (length shares) (λ k. 1 * 4000000000) ≡ sum (length shares) (λ k. 1) * 4000000000 = sum-scale (length shares) (λ k. 1) 4000000000 in
-      omega (arith, ones-add-up (length shares), few .few)
-
-  pub shares-add-up : sum (length shares) (at share) < 18446744073709551616
-  shares-add-up = omega (arith, same-sum, w-at-most)
-
-  module _ (w : ℕ) (is-w : w ≡ sum (length shares) (at share)) where
-    pub w-none : w < 1 → refused wOutOfRange 0 ≡ wVerdict shares
-    unfolding wVerdict unless within
-    w-none b = rw (lt-leb 1 (W (length shares) (at shares)) (omega (arith, same-sum)))
-
-    pub w-too-large : 1 ≤ w → 4000000000 < w → refused wOutOfRange 0 ≡ wVerdict shares
-    unfolding wVerdict unless within
-    w-too-large a b =
-        rw (
-          le-leb 1 (W (length shares) (at shares)) (omega (arith, same-sum)),
-          lt-leb (W (length shares) (at shares)) 4000000000 (omega (arith, same-sum)),
-        )
-
-    pub w-right : 1 ≤ w → w ≤ 4000000000 → accepted ≡ wVerdict shares
-    unfolding wVerdict unless within
-    w-right a b =
-        rw (
-          le-leb 1 (W (length shares) (at shares)) (omega (arith, same-sum)),
-          le-leb (W (length shares) (at shares)) 4000000000 (omega (arith, same-sum)),
-        )
