@@ -1,25 +1,22 @@
--- DEMAND 3 of what the code gives: of the distribution service's list, and of a run of the carries' method. Each figure is the definition's, and demand 3
--- is proved of the definition.
+-- DEMAND 3 of what the code gives: of a table whose figures are the definition's, of which demand 3 is proved, and so of a run of the carries' method.
 use mathlib.Core.List.{List}
 use mathlib.Core.Logic.{_⊎_}
 use mathlib.Core.Path.{_≡_, refl, sym, _∙_, ap, ap₂, subst}
-use Prim.Native.Nat.{ℕ, zero, suc, _+_, _*_, _≤_, _<_}
-use native.Mathlib.Nat.{add-zero, zero-add, le-of-lt, mul-le-mul-right, mul-add-div-right, mul-add-mod-self-right, div-eq-of-lt, mod-eq-of-lt}
+use Prim.Native.Nat.{ℕ, zero, suc, _+_, _≤_, _<_}
+use native.Mathlib.Nat.{zero-add, le-of-lt}
 use native.Mathlib.Omega.{arith}
 use lib.IntN.{ℤ, pos, _-ℤ_}
 use lib.ListN.{length, getD}
 use Rattle.apportion.specs.declared.Carries.{Carries}
 use Rattle.apportion.specs.Demand.{Demand3Of}
 use Rattle.apportion.specs.Good.{Started, Next, shareIn, figureAfter}
-use Rattle.apportion.proofs.Hours.{running-same}
+use Rattle.apportion.proofs.Running.{running-same}
 use Rattle.rules.specs.Demands.{sumOver, sumSinceFirst, exactShare, down, up, Demand3}
 use Rattle.rules.specs.Distributed.{runningAfter, distributedFigure}
 use Rattle.rules.specs.Flows.{W}
-use Rattle.rules.specs.Services.{distributedAt, distributionFigures}
 use Rattle.rules.specs.Words.{sum, sumℤ, at}
 use Rattle.rules.proofs.Demand3.{demand-3}
 use Rattle.rules.proofs.Integers.{sumℤ-cong}
-use Rattle.rules.proofs.Loops.{figures-at}
 
 -- a table whose figures are the definition's
 module _ (figure : ℕ → ℕ → ℤ) (parties hours : ℕ) (share residual : ℕ → ℕ) (some : 0 < W parties share)
@@ -40,35 +37,6 @@ module _ (figure : ℕ → ℕ → ℤ) (parties hours : ℕ) (share residual : 
   pub demand-3-of : Demand3Of figure parties hours share residual
   demand-3-of =
       record { adds-up = λ t b. sumℤ-cong parties (λ i l. same t i b l) ∙ demand .adds-up t; rounded = λ t i b l. subst (λ (z : ℤ). (z ≡ pos (down (W parties share) (exactShare share (sum t residual) i))) ⊎ (z ≡ pos (up (W parties share) (exactShare share (sum t residual) i)))) (sym (since-first t i b l)) (demand .rounded t i); near = λ start run i b l. rw (over start run i b l) (demand .near start run i); larger = λ t i j b l l′ s. rw (since-first t j b l′, since-first t i b l) (demand .larger t i j s) }
-
--- place t x parties + i of the service's list is party i's figure in hour t
-pub in-the-list :
-    (shares residuals : List ℕ) (t i : ℕ)
-    → t < length residuals
-    → i < length shares
-    → getD (distributionFigures shares residuals) (t * length shares + i) (pos 0)
-    ≡ distributedFigure (length shares) (at shares) (at residuals) t i
-unfolding distributionFigures distributedAt
-in-the-list shares residuals t i b l =
-    let some : 0 < length shares = omega arith in
-    figures-at (length residuals * length shares) (distributedAt shares residuals) (t * length shares + i) (pos 0)
-    (omega (arith, mul-le-mul-right (length shares) b))
-    ∙ ap₂ (λ (h p : ℕ). distributedFigure (length shares) (at shares) (at residuals) h p)
-    (mul-add-div-right some t i ∙ ap (λ (q : ℕ). t + q) (div-eq-of-lt l) ∙ add-zero t)
-    (mul-add-mod-self-right t (length shares) i ∙ mod-eq-of-lt l)
-
--- DEMAND 3 OF THE DISTRIBUTION SERVICE: of the figures that it gives for shares with W from 1 up
-pub service-meets-demand-3 :
-    (shares residuals : List ℕ)
-    → 0 < W (length shares) (at shares)
-    → Demand3Of (λ t i. getD (distributionFigures shares residuals) (t * length shares + i) (pos 0)) (length shares) (length residuals) (at shares) (at residuals)
-service-meets-demand-3 shares residuals some =
-    demand-3-of (λ t i. getD (distributionFigures shares residuals) (t * length shares + i) (pos 0)) (length shares)
-    (length residuals)
-    (at shares)
-    (at residuals)
-    some
-    (in-the-list shares residuals)
 
 -- A run of the carries' method from the start of a span: state t after the first t residuals.
 module _ (shares : List ℕ) (residual : ℕ → ℕ) (hours : ℕ) (state : ℕ → Carries) (first : Started shares (state 0))

@@ -4,8 +4,7 @@ pub mod Arrays
 pub mod Totals
 pub mod Step
 pub mod Start
-pub mod Service
-pub mod Hours
-pub mod Passes
+pub mod Shares
+pub mod Running
 pub mod Demand
 pub mod Unique

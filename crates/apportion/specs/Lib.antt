@@ -2,5 +2,5 @@ pub mod Filled
 pub mod Parts
 pub mod Threshold
 pub mod Good
-pub mod Service
+pub mod Shares
 pub mod Demand

@@ -8,7 +8,7 @@ use Rattle.answer.specs.Said.{said, named}
 use Rattle.answer.specs.declared.Answer.{Answer}
 use Rattle.answer.specs.declared.Answer.the-variants.{Done, Refused}
 use Rattle.answer.specs.declared.Refusal.{Refusal}
-use Rattle.apportion.specs.Service.{wVerdict, FewShares}
+use Rattle.apportion.specs.Shares.{wVerdict, FewShares}
 use Rattle.month_file.specs.Fields.{Accepted}
 use Rattle.month_file.specs.declared.Sections.{Sections}
 use Rattle.month_file.proofs.AcceptedFile.{month-whole}

@@ -12,7 +12,7 @@ use Rattle.apportion.specs.Filled.{Filled}
 use Rattle.apportion.specs.Good.{Next}
 use Rattle.apportion.specs.declared.Carries.{Carries}
 use Rattle.apportion.proofs.Arrays.{filled-as}
-use Rattle.apportion.proofs.Hours.{running-same}
+use Rattle.apportion.proofs.Running.{running-same}
 use Rattle.distances.specs.Extremes.{distanceIn, smallestWith, largestWith, With}
 use Rattle.distances.specs.declared.Distances.{Distances}
 use Rattle.month_hour.specs.Column.{column, Column, EachInHour, addable}

@@ -10,7 +10,7 @@ use Rattle.apportion.specs.Filled.{Filled}
 use Rattle.apportion.specs.Good.{Started, Ready, Next, shareIn, figureAfter}
 use Rattle.apportion.specs.declared.Carries.{Carries}
 use Rattle.apportion.proofs.Arrays.{filled-as}
-use Rattle.apportion.proofs.Hours.{running-same}
+use Rattle.apportion.proofs.Running.{running-same}
 use Rattle.month_hours.specs.Hours.{DistributedIs, Carried}
 use Rattle.month_hours.proofs.Bounds.{few-hours, sums-fitℕ}
 use Rattle.rules.specs.Distributed.{runningAfter, distributedFigure}

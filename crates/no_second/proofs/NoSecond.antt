@@ -11,7 +11,7 @@ use Rattle.month_demands.proofs.Unique.{settle-unique}
 use Rattle.month_file.proofs.Unique.{read-unique}
 use Rattle.month_run.proofs.MonthSums.{hours-unique}
 use Rattle.no_second.specs.NoSecond.{OneFits, Answered, Services, ServicesForC, Records, Walks, WholeFiles, Answers, NoSecondResult}
-use Rattle.reconcile.proofs.Unique.{reconciliation-once}
+use Rattle.reconciliation.proofs.Unique.{reconciliation-once}
 use Rattle.record.proofs.Unique.{fault-once, read-once}
 use Rattle.record_write.proofs.Unique.{write-once}
 use Rattle.residual.proofs.Unique.{judge-once}

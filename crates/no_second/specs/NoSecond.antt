@@ -22,8 +22,8 @@ use Rattle.month.specs.declared.Settlement.{Settlement}
 use Rattle.month_file.specs.Walk as File
 use Rattle.month_file.specs.declared.MonthRead.{MonthRead}
 use Rattle.month_run.specs.Run as Run
-use Rattle.reconcile.specs.Told as Hour
-use Rattle.reconcile.specs.declared.Reconciled.{Reconciled}
+use Rattle.reconciliation.specs.Told as Hour
+use Rattle.reconciliation.specs.declared.Reconciled.{Reconciled}
 use Rattle.record.specs.Record.{recordOf, faultOf, glnIn, glnBytes, told}
 use Rattle.record.specs.declared.Read.{Read}
 use Rattle.record.specs.declared.Record.{Record}

@@ -1,5 +1,5 @@
 -- `apportion::w_in_range` meets its contract, exit by exit. Assumes nothing.
-use Rattle.apportion.proofs.Service as S
+use Rattle.apportion.proofs.Shares as S
 use borrow.Author.Needs.{needs}
 use borrow.Author.Needs.{needs}
 use Rattle.apportion.proofs.w_in_range.Statement.{statement}

@@ -1,0 +1,5 @@
+pub mod Lengths
+pub mod Hours
+pub mod Passes
+pub mod Demand
+pub mod Unique

@@ -1,0 +1,5 @@
+pub mod Tests
+pub mod Figures
+pub mod Order
+pub mod Unique
+pub mod AddUp
