@@ -1,9 +1,6 @@
 -- NO SECOND RESULT FITS, for every public service: by its crate's own law, or because the promise says what the result equals.
 use mathlib.Core.List.{List}
 use mathlib.Core.Path.{_≡_, sym, _∙_, ap}
-use Prim.Native.Nat.{ℕ}
-use lib.IntN.{ℤ}
-use lib.ListN.{length, drop}
 use Rattle.answer.proofs.Said.{said-once}
 use Rattle.file_reader.proofs.Unique.{record-here-once, new-once, next-once, moved-once, first-once}
 use Rattle.hours_text.proofs.Unique.{report-unique}
