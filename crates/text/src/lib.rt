@@ -16,6 +16,9 @@ pub const HEADING_ROOM: usize = 120;
 
 pub const COLUMNS_ROOM: usize = 119;
 
+// The most bytes of a refusal line: "refused " 8, its number 2, " at " 4, the place 20 (a place is a number of 64 bits), and the newline 1.
+pub const LONGEST_REFUSAL_LINE: usize = 35;
+
 // The last digit of a number.
 fn put_digit(out: &mut [u8], place: usize, n: u64) -> usize
     requires { ⌜ place < length (now out) ⌝ }
