@@ -19,7 +19,8 @@ use Rattle.rules.specs.Statement.{headingText, headingLine, joined}
 use Rattle.rules.specs.Words.{figures}
 use Rattle.rules.proofs.Lines.{lines-in-two}
 use Rattle.rules.proofs.Loops.{figures-cong}
-use Rattle.text.specs.Text.{Put, LinePut, headingRoom}
+use Rattle.statement_lines.specs.Rooms.{headingRoom}
+use Rattle.text.specs.Text.{Put, LinePut}
 use Rattle.text.proofs.Puts.{put-then, put-as, put-length}
 
 -- the hours of the first buffer are all of a short month

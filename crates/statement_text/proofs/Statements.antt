@@ -23,7 +23,8 @@ use Rattle.rules.specs.Statement as T
 use Rattle.statement_text.specs.Lines.{Settled, partyLines, statementRoom}
 use Rattle.statement_text.specs.Stating.{textVerdict, Promised}
 use Rattle.statement_text.specs.declared.Stated.the-variants as S
-use Rattle.text.specs.Text.{Put, LinePut, headingRoom, columnsRoom, atStart}
+use Rattle.statement_lines.specs.Rooms.{headingRoom, columnsRoom}
+use Rattle.text.specs.Text.{Put, LinePut, atStart}
 use Rattle.text.proofs.Puts.{put-then, put-as, put-length, put-at-start}
 
 module _ (file : List ℕ) (s : Sections) (ok : Accepted file s) {outcome : Outcome} (is : OutcomeIs (monthOf file) outcome) (done : outcome .answer ≡ Done) where

@@ -1,4 +1,4 @@
--- What putting a text into a lent buffer means, and the room that each line takes (01 "The statement program").
+-- What putting a text into a lent buffer means, and the room that a number, a column and the refusal line take (01 "The statement program").
 -- The texts themselves stand in the rules.
 use mathlib.Core.List.{List, _++_}
 use mathlib.Core.Path.{_≡_}
@@ -20,32 +20,13 @@ pub record LinePut (text before : List ℕ) (place room : ℕ) (after : List ℕ
 abbrev pub mostDigits : ℕ
 mostDigits = 20
 
--- the most bytes of a heading line: "area " 5 and 3, " " 1 and a number, "-" 1 and 2; then " hours " 7, " parties " 9 and " estimated " 11, each with a
--- number, and the newline
-abbrev pub areaMonthRoom : ℕ
-areaMonthRoom = 32
-
-abbrev pub countsRoom : ℕ
-countsRoom = 88
-
-abbrev pub headingRoom : ℕ
-headingRoom = 120
-
--- the most bytes of a line of columns: a name, a GLN's 13 bytes at most, and two columns of a space and a number; then three columns and the newline
+-- a name before columns: a GLN's 13 bytes at most
 abbrev pub longestName : ℕ
 longestName = 13
 
+-- a column: a space and a number
 abbrev pub columnRoom : ℕ
 columnRoom = 21
-
-abbrev pub nameEnergiesRoom : ℕ
-nameEnergiesRoom = 55
-
-abbrev pub resultsRoom : ℕ
-resultsRoom = 64
-
-abbrev pub columnsRoom : ℕ
-columnsRoom = 119
 
 -- the most bytes of a refusal line: "refused " 8, its number 2, " at " 4, the place 20, and the newline
 abbrev pub longestRefusalLine : ℕ

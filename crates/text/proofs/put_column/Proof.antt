@@ -1,6 +1,6 @@
 -- `text::put_column` meets its contract: a space, then a number with its sign. Assumes nothing.
 use Rattle.rules.specs.Words.{ascii}
-use Rattle.text.proofs.Lines.{column}
+use Rattle.text.proofs.Column.{column}
 use borrow.Author.Needs.{needs}
 use Rattle.text.proofs.put_column.Statement.{statement}
 use Rattle.text.proofs.put_column.Tie as tie

@@ -1,9 +1,9 @@
--- `text::put_name_energies` meets its contract: the name, then two columns. Assumes nothing.
+-- `statement_lines::put_name_energies` meets its contract: the name, then two columns. Assumes nothing.
 use Rattle.rules.specs.Words.{ascii}
-use Rattle.text.proofs.Lines.{name-energies}
+use Rattle.statement_lines.proofs.Lines.{name-energies}
 use borrow.Author.Needs.{needs}
-use Rattle.text.proofs.put_name_energies.Statement.{statement}
-use Rattle.text.proofs.put_name_energies.Tie as tie
+use Rattle.statement_lines.proofs.put_name_energies.Statement.{statement}
+use Rattle.statement_lines.proofs.put_name_energies.Tie as tie
 
 put-bytes-requires : tie.Need-put-bytes-requires
 put-bytes-requires c κs = search needs

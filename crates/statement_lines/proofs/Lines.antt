@@ -1,6 +1,6 @@
 -- A line of the statement from the texts put one after the other. Each law takes what the parts' functions promise.
 use mathlib.Core.List.{List, _++_, append-assoc}
-use mathlib.Core.Path.{sym, ap}
+use mathlib.Core.Path.{sym}
 use Prim.Native.Nat.{ℕ}
 use lib.IntN.{ℤ}
 use mir.Facts.{toZ-ofZ}
@@ -33,10 +33,6 @@ module _ {b : List ℕ} {p : ℕ} where
       → Put (headingText area year month hours parties estimated) b p a e
   unfolding headingText
   heading area year month hours parties estimated h k = put-as (simp append-assoc) (put-then h k)
-
-  pub column : {z : ℤ} → SFits w64 z → {m a : List ℕ} {q e : ℕ} → Put (ascii " ") b p m q → Put (signedDecimal (toZ w64 (ofZ w64 z))) m q a e
-      → Put (ascii " " ++ signedDecimal z) b p a e
-  column f h k = put-then h (put-as (ap signedDecimal (toZ-ofZ f)) k)
 
   pub name-energies : {distributed : ℤ} → SFits w64 distributed → (periodised : ℕ) {name m m′ a : List ℕ} {q q′ e : ℕ} → Put name b p m q
       → Put (ascii " " ++ signedDecimal (toZ w64 (ofZ w64 distributed))) m q m′ q′

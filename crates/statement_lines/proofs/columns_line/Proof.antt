@@ -1,8 +1,8 @@
--- `text::columns_line` meets its contract: its two halves, one after the other. Assumes nothing.
-use Rattle.text.proofs.Lines.{columns}
+-- `statement_lines::columns_line` meets its contract: its two halves, one after the other. Assumes nothing.
+use Rattle.statement_lines.proofs.Lines.{columns}
 use borrow.Author.Needs.{needs}
-use Rattle.text.proofs.columns_line.Statement.{statement}
-use Rattle.text.proofs.columns_line.Tie as tie
+use Rattle.statement_lines.proofs.columns_line.Statement.{statement}
+use Rattle.statement_lines.proofs.columns_line.Tie as tie
 
 put-name-energies-requires : tie.Need-put-name-energies-requires
 put-name-energies-requires c κs = search needs

@@ -1,9 +1,9 @@
--- `text::put_area_month` meets its contract: each word and its number after the one before. Assumes nothing.
+-- `statement_lines::put_area_month` meets its contract: each word and its number after the one before. Assumes nothing.
 use Rattle.rules.specs.Words.{ascii}
-use Rattle.text.proofs.Lines.{area-month}
+use Rattle.statement_lines.proofs.Lines.{area-month}
 use borrow.Author.Needs.{needs}
-use Rattle.text.proofs.put_area_month.Statement.{statement}
-use Rattle.text.proofs.put_area_month.Tie as tie
+use Rattle.statement_lines.proofs.put_area_month.Statement.{statement}
+use Rattle.statement_lines.proofs.put_area_month.Tie as tie
 
 slice-aggregate-put-word-width : tie.Need-slice-aggregate-put-word-width
 slice-aggregate-put-word-width c = search needs

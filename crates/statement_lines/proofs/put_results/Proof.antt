@@ -1,9 +1,9 @@
--- `text::put_results` meets its contract: three columns and the newline. Assumes nothing.
+-- `statement_lines::put_results` meets its contract: three columns and the newline. Assumes nothing.
 use Rattle.rules.specs.Statement.{newline}
-use Rattle.text.proofs.Lines.{results}
+use Rattle.statement_lines.proofs.Lines.{results}
 use borrow.Author.Needs.{needs}
-use Rattle.text.proofs.put_results.Statement.{statement}
-use Rattle.text.proofs.put_results.Tie as tie
+use Rattle.statement_lines.proofs.put_results.Statement.{statement}
+use Rattle.statement_lines.proofs.put_results.Tie as tie
 
 put-column-requires : tie.Need-put-column-requires
 put-column-requires c κs = search needs

@@ -1,10 +1,10 @@
--- `text::put_counts` meets its contract: each word and its number after the one before, and the newline. Assumes nothing.
+-- `statement_lines::put_counts` meets its contract: each word and its number after the one before, and the newline. Assumes nothing.
 use Rattle.rules.specs.Words.{ascii}
 use Rattle.rules.specs.Statement.{newline}
-use Rattle.text.proofs.Lines.{counts}
+use Rattle.statement_lines.proofs.Lines.{counts}
 use borrow.Author.Needs.{needs}
-use Rattle.text.proofs.put_counts.Statement.{statement}
-use Rattle.text.proofs.put_counts.Tie as tie
+use Rattle.statement_lines.proofs.put_counts.Statement.{statement}
+use Rattle.statement_lines.proofs.put_counts.Tie as tie
 
 slice-aggregate-put-word-number : tie.Need-slice-aggregate-put-word-number
 slice-aggregate-put-word-number c = search needs

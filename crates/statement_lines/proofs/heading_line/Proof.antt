@@ -1,8 +1,8 @@
--- `text::heading_line` meets its contract: its two halves, one after the other. Assumes nothing.
-use Rattle.text.proofs.Lines.{heading}
+-- `statement_lines::heading_line` meets its contract: its two halves, one after the other. Assumes nothing.
+use Rattle.statement_lines.proofs.Lines.{heading}
 use borrow.Author.Needs.{needs}
-use Rattle.text.proofs.heading_line.Statement.{statement}
-use Rattle.text.proofs.heading_line.Tie as tie
+use Rattle.statement_lines.proofs.heading_line.Statement.{statement}
+use Rattle.statement_lines.proofs.heading_line.Tie as tie
 
 put-area-month-requires : tie.Need-put-area-month-requires
 put-area-month-requires c κs = search needs
