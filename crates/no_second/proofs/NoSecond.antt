@@ -7,7 +7,7 @@ use Rattle.hours_text.proofs.Unique.{report-unique}
 use Rattle.month_demands.proofs.Unique.{settle-unique}
 use Rattle.month_file.proofs.Unique.{read-unique}
 use Rattle.month_run.proofs.MonthSums.{hours-unique}
-use Rattle.no_second.specs.NoSecond.{OneFits, Answered, Services, ServicesForC, Records, Walks, WholeFiles, Answers, NoSecondResult}
+use Rattle.no_second.specs.NoSecond.{OneFits, Answered, Numbered, Services, ServicesForC, Records, Walks, WholeFiles, Answers, NoSecondResult}
 use Rattle.reconciliation.proofs.Unique.{reconciliation-once}
 use Rattle.record.proofs.Unique.{fault-once, read-once}
 use Rattle.record_write.proofs.Unique.{write-once}
@@ -36,10 +36,14 @@ unfolding OneFits Answered
 services =
     record { residual = λ statuses nets productions hourlies flexes lent. one-answered _ _ lent; judge = judge-once; applied = λ fixed refixed has. one-value _; curve = λ residuals w lent. one-answered _ _ lent; distribution = λ shares residuals lent. one-answered _ _ lent; periodisation = λ e weights lent. one-answered _ _ lent; reconciliation = λ residual distributed periodised carrier price differences amounts r s p q. let e = reconciliation-once (record { answers = p .0; tells = p .1; holds-differences = p .2; holds-amounts = p .3 }) (record { answers = q .0; tells = q .1; holds-differences = q .2; holds-amounts = q .3 }) in λ i. (e .0 i, e .1 .0 i, e .1 .1 i); loss-of = λ party carrier loss. one-value _; invoice-ore = λ amount. one-value _ }
 
+one-numbered : {A : Type 0} (verdict : Verdict) (figures lent : List A) → OneFits (Numbered verdict figures lent)
+unfolding OneFits Numbered
+one-numbered verdict figures lent r s p q = λ i. ((p .0 ∙ sym (q .0)) i, (p .1 ∙ sym (q .1)) i)
+
 services-for-C : ServicesForC
-unfolding OneFits
+unfolding OneFits Numbered
 services-for-C =
-    record { answered = λ verdict figures lent r s p q i. ((p .0 ∙ sym (q .0)) i, (p .1 ∙ sym (q .1)) i); reconciliation = λ verdict loss lentLoss differences lentDifferences amounts lentAmounts r s p q i. ((p .0 ∙ sym (q .0)) i, (p .1 ∙ sym (q .1)) i, (p .2 ∙ sym (q .2)) i, (p .3 ∙ sym (q .3)) i) }
+    record { residual = λ statuses nets productions hourlies flexes lent. one-numbered _ _ lent; curve = λ residuals w lent. one-numbered _ _ lent; distribution = λ shares residuals lent. one-numbered _ _ lent; periodisation = λ e weights lent. one-numbered _ _ lent; reconciliation = λ residual distributed periodised carrier price loss differences amounts r s p q i. ((p .0 ∙ sym (q .0)) i, (p .1 ∙ sym (q .1)) i, (p .2 ∙ sym (q .2)) i, (p .3 ∙ sym (q .3)) i); invoice-ore = λ amount. one-value _ }
 
 records : Records
 unfolding OneFits

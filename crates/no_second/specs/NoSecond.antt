@@ -81,18 +81,35 @@ pub record Services : Type 0 where
   pub loss-of : (party carrier : ℕ) (loss : ℤ) → OneFits (λ (r : ℤ). r ≡ lossOf carrier loss party)
   pub invoice-ore : (amount : ℤ) → OneFits (λ (r : ℤ). r ≡ invoiceOre amount)
 
--- THE SAME FOR C: a number for the answer
+-- THE SAME FOR C: a number for the answer, with what a lent list then holds
+unfoldable pub Numbered : {A : Type 0} → Verdict → List A → List A → ℕ × List A → Type 0
+Numbered verdict figures lent r = (r .0 ≡ coded verdict) × (r .1 ≡ afterwards verdict figures lent)
+
 pub record ServicesForC : Type 0 where
-  -- one promise for the four services that lend one list
-  pub answered : {A : Type 0} (verdict : Verdict) (figures lent : List A) → OneFits (λ (r : ℕ × List A). (r .0 ≡ coded verdict) × (r .1 ≡ afterwards verdict figures lent))
+  pub residual :
+      (statuses : List ℕ) (nets : List ℤ) (productions hourlies flexes lent : List ℕ)
+      → OneFits
+      (Numbered (first (residualChecks statuses nets productions hourlies flexes (length lent)))
+      (residualFigures statuses nets productions hourlies flexes) lent)
+  pub curve :
+      (residuals : List ℕ) (w : ℕ) (lent : List ℕ)
+      → OneFits (Numbered (first (curveChecks residuals w (length lent))) (curveFigures residuals w) lent)
+  pub distribution :
+      (shares residuals : List ℕ) (lent : List ℤ)
+      → OneFits (Numbered (first (distributionChecks shares residuals (length lent))) (distributionFigures shares residuals) lent)
+  pub periodisation :
+      (e : ℕ) (weights lent : List ℕ)
+      → OneFits (Numbered (first (periodisationChecks e weights (length lent))) (periodisationFigures e weights) lent)
   pub reconciliation :
-      (verdict : Verdict) (loss lentLoss : ℤ) (differences lentDifferences amounts lentAmounts : List ℤ)
+      (residual : ℕ) (distributed : List ℤ) (periodised : List ℕ) (carrier : ℕ) (price : ℤ) (loss : ℤ) (differences amounts : List ℤ)
       → OneFits
       (λ (r : ℕ × ℤ × List ℤ × List ℤ).
+      let verdict : Verdict = first (reconciliationChecks residual distributed periodised carrier price (length differences) (length amounts)) in
       (r .0 ≡ coded verdict)
-      × (r .1 ≡ kept verdict loss lentLoss)
-      × (r .2 ≡ afterwards verdict differences lentDifferences)
-      × (r .3 ≡ afterwards verdict amounts lentAmounts))
+      × (r .1 ≡ kept verdict (reconciliationLoss residual periodised) loss)
+      × (r .2 ≡ afterwards verdict (reconciliationDifferences residual distributed periodised carrier) differences)
+      × (r .3 ≡ afterwards verdict (reconciliationAmounts (reconciliationDifferences residual distributed periodised carrier) price) amounts))
+  pub invoice-ore : (amount : ℤ) → OneFits (λ (r : ℤ). r ≡ invoiceOre amount)
 
 -- ONE RECORD
 pub record Records : Type 0 where
