@@ -3,9 +3,11 @@
 //
 // What is proved of it: it is safe and ends, given that each read and write returns; and the three parts that it makes for printing, one after the other, are the
 // report of the bytes read, for a file that is too long the refusal 1 at 0. That the bytes read are those of standard input, and that the parts are handed over in
-// this order and arrive, no contract can say: see the head of `streams`.
+// this order and arrive, no contract can say: those of `libc::read` and `libc::write` speak of the count of one call alone. tests/streams tries it.
 use answer::Refusal;
 use hours_text::Reported;
+use libc::STDERR_FILENO;
+use libc::STDOUT_FILENO;
 use streams::Input;
 ghost use lib.ListN.{length, take};
 ghost use mathlib.Core.Path.{_≡_};
@@ -85,8 +87,19 @@ fn too_long_text(out: &mut [u8]) -> usize
     text::put_refusal(Refusal::FileFault, 0, out)
 }
 
+// Says a failure on standard error; where that fails too, there is nowhere left to say it. A program has no exit status: a failure is told here alone, with no
+// answer or a part of one on standard output.
+fn complain(message: &[u8]) {
+    io::write_all(STDERR_FILENO, message);
+}
+
+// Prints all of a text, however many writes it takes, and says the first that fails; whether none did.
 fn print(text: &[u8]) -> bool {
-    streams::print(text, b"hours: standard output cannot be written\n")
+    let all = io::write_all(STDOUT_FILENO, text);
+    if !all {
+        complain(b"hours: standard output cannot be written\n");
+    }
+    all
 }
 
 // One part after the other, and none after a part that could not be handed over.
@@ -120,6 +133,6 @@ fn main() {
     match input {
         Input::Whole(n) => print_file(&buffer[0..n]),
         Input::TooLong => print_too_long(),
-        Input::Failed => streams::complain(b"hours: standard input cannot be read\n"),
+        Input::Failed => complain(b"hours: standard input cannot be read\n"),
     }
 }

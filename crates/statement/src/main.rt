@@ -2,8 +2,10 @@
 //
 // What is proved of it: it is safe and ends, given that each read and write returns; and the text that it makes for printing is the
 // statement of the bytes read, for a file that is too long the refusal 1 at 0. That the bytes read are those of standard input, and that the text arrives, no
-// contract can say: see the head of `streams`.
+// contract can say: those of `libc::read` and `libc::write` speak of the count of one call alone. tests/streams tries it.
 use answer::Refusal;
+use libc::STDERR_FILENO;
+use libc::STDOUT_FILENO;
 use statement_text::Stated;
 use streams::Input;
 ghost use lib.ListN.{length, take};
@@ -68,8 +70,18 @@ fn too_long_text(out: &mut [u8]) -> usize
     answer_text(Stated::Refused(Refusal::FileFault, 0), out)
 }
 
+// Says a failure on standard error; where that fails too, there is nowhere left to say it. A program has no exit status: a failure is told here alone, with no
+// answer or a part of one on standard output.
+fn complain(message: &[u8]) {
+    io::write_all(STDERR_FILENO, message);
+}
+
+// Prints all of a text, however many writes it takes, and says the first that fails.
 fn print(text: &[u8]) {
-    streams::print(text, b"statement: standard output cannot be written\n");
+    let all = io::write_all(STDOUT_FILENO, text);
+    if !all {
+        complain(b"statement: standard output cannot be written\n");
+    }
 }
 
 // A file that was read whole: its statement, or its refusal.
@@ -91,6 +103,6 @@ fn main() {
     match input {
         Input::Whole(n) => print_file(&buffer[0..n]),
         Input::TooLong => print_too_long(),
-        Input::Failed => streams::complain(b"statement: standard input cannot be read\n"),
+        Input::Failed => complain(b"statement: standard input cannot be read\n"),
     }
 }

@@ -1,13 +1,9 @@
-// Standard input and standard output, as the programs use them: a month file is read piece by piece, and a text is printed, however many reads and writes it
-// takes.
+// Standard input, as the programs use it: a month file is read piece by piece, however many reads it takes.
 //
-// What is proved: each function is safe and ends, given that each read and write returns; and an input that was read whole lies within the buffer. What no
-// contract can say, since those of `libc::read` and `libc::write` speak of the count of one call alone: that the bytes of the buffer are those of standard
-// input, all of them, and that what is handed over arrives. tests/streams tries that on the running program. A program has no exit status: a failure is told on
-// standard error, with no answer or a part of one on standard output.
-use libc::STDERR_FILENO;
+// What is proved: each function is safe and ends, given that each read returns; and an input that was read whole lies within the buffer. What no contract can say,
+// since that of `libc::read` speaks of the count of one call alone: that the bytes of the buffer are those of standard input, all of them. tests/streams tries that on
+// the running programs. Each program writes by itself: of `io::write_all` nothing is promised, so nothing could be promised of a public function that calls it.
 use libc::STDIN_FILENO;
-use libc::STDOUT_FILENO;
 ghost use lib.ListN.{length};
 ghost use Rattle.streams.specs.Reading.{PieceWithin, InputWithin};
 
@@ -73,19 +69,4 @@ pub fn read_month(buffer: &mut [u8]) -> Input
         }
     }
     read_past(done)
-}
-
-// Says a failure on standard error; where that fails too, there is nowhere left to say it.
-pub fn complain(message: &[u8]) {
-    io::write_all(STDERR_FILENO, message);
-}
-
-// Prints all of a text, however many writes it takes, and says the first that fails by the complaint. Whether all of it was handed over is told: nothing is to be
-// printed after a text that was not.
-pub fn print(text: &[u8], complaint: &[u8]) -> bool {
-    let all = io::write_all(STDOUT_FILENO, text);
-    if !all {
-        complain(complaint);
-    }
-    all
 }
