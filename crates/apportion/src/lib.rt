@@ -1,6 +1,6 @@
 // The largest-remainder rule and the carries of all parties (01 "Distributed consumption"; H2 5.3). A party's running sum is share x R / W rounded down,
 // and the Wh left over go one each to the largest remainders. What is carried from hour to hour is the remainder of that division, so no product passes 64
-// bits. The service over a whole span is `distribution`.
+// bits. The service over a whole span is `distribute_service`.
 use answer::Answer;
 use answer::Refusal;
 ghost use mathlib.Core.Path.{_≡_};

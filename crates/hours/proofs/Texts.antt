@@ -7,11 +7,11 @@ use lib.ListN.{length}
 use Rattle.answer.specs.Said.{named}
 use Rattle.answer.specs.declared.Refusal.{Refusal}
 use Rattle.hours.specs.Printed.{Prints}
-use Rattle.hours_text.specs.Lines.{firstRoom, restRoom, partiesRoom, firstPart, restPart, partiesPart, Roomy}
-use Rattle.hours_text.specs.Reporting.{Lengths, lengthsOf, verdict, told, rooms, reportVerdict, Promised}
-use Rattle.hours_text.specs.declared.Reported.{Reported}
-use Rattle.hours_text.specs.declared.Reported.the-variants.{Lines, Refused}
-use Rattle.hours_text.proofs.Reports.{report-text, refusal-text}
+use Rattle.report_text.specs.Lines.{firstRoom, restRoom, partiesRoom, firstPart, restPart, partiesPart, Roomy}
+use Rattle.report_text.specs.Reporting.{Lengths, lengthsOf, verdict, told, rooms, reportVerdict, Promised}
+use Rattle.report_text.specs.declared.Reported.{Reported}
+use Rattle.report_text.specs.declared.Reported.the-variants.{Lines, Refused}
+use Rattle.report_text.proofs.Reports.{report-text, refusal-text}
 use Rattle.rules.specs.HoursReport.{hoursReport}
 use Rattle.rules.specs.Month.{fileVerdict, monthOf}
 use Rattle.rules.specs.MonthFile.{MonthFile}

@@ -5,26 +5,26 @@
 // report of the bytes read, for a file that is too long the refusal 1 at 0. That the bytes read are those of standard input, and that the parts are handed over in
 // this order and arrive, no contract can say: those of `libc::read` and `libc::write` speak of the count of one call alone. tests/streams tries it.
 use answer::Refusal;
-use hours_text::Reported;
 use libc::STDERR_FILENO;
 use libc::STDOUT_FILENO;
-use streams::Input;
+use report_text::Reported;
+use standard_input::Input;
 ghost use lib.ListN.{length, take};
 ghost use mathlib.Core.Path.{_≡_};
 ghost use Prim.Native.Nat.{_≤_};
 ghost use Rattle.hours.specs.Printed.{Prints};
-ghost use Rattle.hours_text.specs.Lines.{Roomy};
+ghost use Rattle.report_text.specs.Lines.{Roomy};
 ghost use Rattle.rules.specs.HoursReport.{hoursReport};
 ghost use Rattle.rules.specs.Refusals.{fileFault};
 ghost use Rattle.rules.specs.Statement.{refusalLine};
 ghost use Rattle.text.specs.Text.{longestRefusalLine};
 
 // The most bytes of each part, and of a refusal line.
-const FIRST_ROOM: usize = hours_text::FIRST_ROOM;
+const FIRST_ROOM: usize = report_text::FIRST_ROOM;
 
-const REST_ROOM: usize = hours_text::REST_ROOM;
+const REST_ROOM: usize = report_text::REST_ROOM;
 
-const PARTIES_ROOM: usize = hours_text::PARTIES_ROOM;
+const PARTIES_ROOM: usize = report_text::PARTIES_ROOM;
 
 const REFUSAL_ROOM: usize = text::LONGEST_REFUSAL_LINE;
 
@@ -60,7 +60,7 @@ fn file_text(file: &[u8], first: &mut [u8], rest: &mut [u8], parties: &mut [u8])
     requires { ⌜ Roomy (length (now first)) (length (now rest)) (length (now parties)) ⌝ }
     ensures { λ p. ⌜ Prints (hoursReport (now (file .entry))) p (now (first .exit)) (now (rest .exit)) (now (parties .exit)) ⌝ }
 {
-    let reported = hours_text::report(file, first, rest, parties);
+    let reported = report_text::report(file, first, rest, parties);
     match reported {
         Reported::Lines(a, b, c) => Parts {
             first: a,
@@ -129,7 +129,7 @@ fn print_too_long() {
 
 fn main() {
     let mut buffer = io::large_buffer();
-    let input = streams::read_month(&mut buffer);
+    let input = standard_input::read_month(&mut buffer);
     match input {
         Input::Whole(n) => print_file(&buffer[0..n]),
         Input::TooLong => print_too_long(),

@@ -8,11 +8,11 @@ use native.Mathlib.Nat.{zero-add}
 use lib.IntN.{ℤ, pos}
 use lib.ListN.{length}
 use Rattle.month_demands.specs.Demands.{NoRefusalApplies, RefusalApplies, of-reading, of-the-month, of-the-lent, MonthMeets}
-use Rattle.month.specs.Told.{summaryOf, verdict, told, lentRight, settleVerdict, Promised}
-use Rattle.month.specs.declared.Settlement.{Settlement}
-use Rattle.month.specs.declared.Settlement.the-variants.{Settled, Refused}
-use Rattle.month.specs.declared.Summary.{Summary}
-use Rattle.month_file.proofs.AcceptedFile.{month-of}
+use Rattle.month_sums.specs.Told.{summaryOf, verdict, told, lentRight, settleVerdict, Promised}
+use Rattle.month_sums.specs.declared.Settlement.{Settlement}
+use Rattle.month_sums.specs.declared.Settlement.the-variants.{Settled, Refused}
+use Rattle.month_sums.specs.declared.Summary.{Summary}
+use Rattle.file_sections.proofs.AcceptedFile.{month-of}
 use Rattle.rules.specs.Accepted.{NoneRefuses}
 use Rattle.rules.specs.Demands.{sumOver, sumSinceFirst}
 use Rattle.rules.specs.Distributed.{distributedFigure}

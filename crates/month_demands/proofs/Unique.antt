@@ -8,13 +8,13 @@ use lib.IntN.{ℤ, pos}
 use Rattle.answer.specs.Said.{named, said}
 use Rattle.answer.proofs.Said.{named-once, said-once}
 use Rattle.apportion.proofs.Arrays.{filled-once}
-use Rattle.month.specs.Outcomes.{OutcomeIs}
-use Rattle.month.specs.Told.{verdict, told, Promised}
-use Rattle.month.specs.Windows.{SumsAre}
-use Rattle.month.specs.declared.Outcome.{Outcome}
-use Rattle.month.specs.declared.Settlement.{Settlement}
-use Rattle.month.specs.declared.Settlement.the-variants.{Settled, Refused}
-use Rattle.month_hour.specs.declared.Sums.{Sums}
+use Rattle.month_sums.specs.Outcomes.{OutcomeIs}
+use Rattle.month_sums.specs.Told.{verdict, told, Promised}
+use Rattle.month_sums.specs.Windows.{SumsAre}
+use Rattle.month_sums.specs.declared.Outcome.{Outcome}
+use Rattle.month_sums.specs.declared.Settlement.{Settlement}
+use Rattle.month_sums.specs.declared.Settlement.the-variants.{Settled, Refused}
+use Rattle.hour_settled.specs.declared.Sums.{Sums}
 use Rattle.rules.specs.Month.{monthOf, monthDistributed, monthPeriodised, monthLoss, monthDifference, monthAmount}
 use Rattle.rules.specs.MonthFile.{MonthFile, P}
 use Rattle.rules.specs.Refusals.{accepted, afterwards}

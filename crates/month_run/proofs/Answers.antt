@@ -10,9 +10,9 @@ use Rattle.answer.specs.Said.{said, named}
 use Rattle.answer.specs.declared.Answer.{Answer}
 use Rattle.answer.specs.declared.Answer.the-variants.{Done, Refused}
 use Rattle.answer.specs.declared.Refusal.{Refusal}
-use Rattle.month_file.specs.Fields.{Accepted}
-use Rattle.month_file.specs.declared.Sections.{Sections}
-use Rattle.month_file.proofs.AcceptedFile.{read-as, hours-are, parties-are}
+use Rattle.file_sections.specs.Fields.{Accepted}
+use Rattle.file_sections.specs.declared.Sections.{Sections}
+use Rattle.file_sections.proofs.AcceptedFile.{read-as, hours-are, parties-are}
 use Rattle.month_run.specs.Run.{inMonth, lentRight, askedVerdict, runVerdict, Promised}
 use Rattle.month_run_hours.specs.Running.{RunLent, RunIs}
 use Rattle.month_run.proofs.Verdicts.{run-inside, lengths}

@@ -6,14 +6,14 @@ use Prim.Native.Nat.{ℕ}
 use lib.Dec.{eqb}
 use Rattle.answer.specs.Said.{said}
 use Rattle.answer.specs.declared.Answer.the-variants.{Done}
-use Rattle.month.specs.Outcomes.{OutcomeIs}
-use Rattle.month.specs.Windows.{Beginning}
-use Rattle.month.specs.declared.Outcome.{Outcome}
-use Rattle.month.proofs.Chain as C
-use Rattle.month_checks.specs.Checks.{MadeIs}
-use Rattle.month_checks.specs.declared.Made.{Made}
-use Rattle.month_file.specs.Fields.{Accepted}
-use Rattle.month_file.specs.declared.Sections.{Sections}
+use Rattle.month_sums.specs.Outcomes.{OutcomeIs}
+use Rattle.month_sums.specs.Windows.{Beginning}
+use Rattle.month_sums.specs.declared.Outcome.{Outcome}
+use Rattle.month_sums.proofs.Chain as C
+use Rattle.month_prepare.specs.Checks.{MadeIs}
+use Rattle.month_prepare.specs.declared.Made.{Made}
+use Rattle.file_sections.specs.Fields.{Accepted}
+use Rattle.file_sections.specs.declared.Sections.{Sections}
 use Rattle.month_run_hours.specs.Running.{RunKnown}
 use Rattle.residual.specs.Applied.{appliedOf}
 use Rattle.rules.specs.Month.{monthOf, monthVerdict}

@@ -8,7 +8,7 @@ use native.Mathlib.Omega.{arith}
 use lib.ListN.{getD}
 use Rattle.apportion.specs.Good.{Ready, Next}
 use Rattle.apportion.specs.declared.Carries.{Carries}
-use Rattle.month_hours.proofs.Bounds.{sums-fitℕ}
+use Rattle.month_walk.proofs.Bounds.{sums-fitℕ}
 use Rattle.month_run_hours.specs.Running.{Steppable, Stepped}
 use Rattle.rules.specs.Words.{sum, at}
 

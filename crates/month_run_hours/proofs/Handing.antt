@@ -6,11 +6,11 @@ use native.Mathlib.Omega.{arith}
 use lib.ListN.{length}
 use Rattle.apportion.specs.Filled.{Filled}
 use Rattle.apportion.specs.declared.Carries.{Carries}
-use Rattle.month.specs.Windows.{Beginning}
-use Rattle.month_file.specs.declared.Sections.{Sections}
-use Rattle.month_hours.specs.Hours.{Carried}
-use Rattle.month_hours.proofs.Bounds.{few-hours}
-use Rattle.month_hours.proofs.Carrying.{carried-start}
+use Rattle.month_sums.specs.Windows.{Beginning}
+use Rattle.file_sections.specs.declared.Sections.{Sections}
+use Rattle.month_walk.specs.Hours.{Carried}
+use Rattle.month_walk.proofs.Bounds.{few-hours}
+use Rattle.month_walk.proofs.Carrying.{carried-start}
 use Rattle.month_run_hours.specs.Running.{Steppable, Stepped, RunKnown}
 use Rattle.rules.specs.Month.{monthOf, shareOf, appliedWh}
 use Rattle.rules.specs.MonthFile.{MonthFile, H, P}

@@ -8,12 +8,12 @@ use lib.IntN.{ℤ}
 use lib.ListN.{length}
 use Rattle.apportion.specs.Good.{Ready, Next}
 use Rattle.apportion.specs.declared.Carries.{Carries}
-use Rattle.month_file.specs.declared.Sections.{Sections}
-use Rattle.month_file.proofs.AcceptedFile.{parties-are}
-use Rattle.month_hour.specs.declared.Settled.{Settled}
-use Rattle.month_hours.specs.Hours.{HourKnown, DistributedIs, SettledIs, Carried}
-use Rattle.month_hours.proofs.Bounds.{few-parties}
-use Rattle.month_hours.proofs.Carrying as C
+use Rattle.file_sections.specs.declared.Sections.{Sections}
+use Rattle.file_sections.proofs.AcceptedFile.{parties-are}
+use Rattle.hour_settled.specs.declared.Settled.{Settled}
+use Rattle.month_walk.specs.Hours.{HourKnown, DistributedIs, SettledIs, Carried}
+use Rattle.month_walk.proofs.Bounds.{few-parties}
+use Rattle.month_walk.proofs.Carrying as C
 use Rattle.month_run_hours.specs.InRun.{distributedInRun, periodisedInRun, differenceInRun, lossInRun}
 use Rattle.month_run_hours.specs.Running.{Running, HourLent, HourWritten}
 use Rattle.rules.specs.Month.{monthOf, distributed, periodised, difference, loss}

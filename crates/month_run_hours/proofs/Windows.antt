@@ -7,17 +7,17 @@ use native.Mathlib.Omega.{arith}
 use lib.IntN.{ℤ}
 use lib.ListN.{length, getD}
 use Rattle.apportion.specs.declared.Carries.{Carries}
-use Rattle.month.specs.Windows.{Span, windowPlaces}
-use Rattle.month.proofs.OneWindow as W
-use Rattle.month.proofs.Spans as S
-use Rattle.month.proofs.Spans.{hours-left}
-use Rattle.month_file.specs.declared.Sections.{Sections}
-use Rattle.month_file.proofs.AcceptedFile.{month-whole, parties-are}
-use Rattle.month_hour.specs.Column.{column}
-use Rattle.month_hours.specs.Hours.{Readable, HourKnown, WindowKnown, Carried}
-use Rattle.month_hours.proofs.Bounds.{few-hours}
-use Rattle.month_hours.proofs.Windows.{applied-long, hour-known}
-use Rattle.month_readings.specs.Window.{Window}
+use Rattle.month_sums.specs.Windows.{Span, windowPlaces}
+use Rattle.month_sums.proofs.OneWindow as W
+use Rattle.month_sums.proofs.Spans as S
+use Rattle.month_sums.proofs.Spans.{hours-left}
+use Rattle.file_sections.specs.declared.Sections.{Sections}
+use Rattle.file_sections.proofs.AcceptedFile.{month-whole, parties-are}
+use Rattle.hour_settled.specs.Column.{column}
+use Rattle.month_walk.specs.Hours.{Readable, HourKnown, WindowKnown, Carried}
+use Rattle.month_walk.proofs.Bounds.{few-hours}
+use Rattle.month_walk.proofs.Windows.{applied-long, hour-known}
+use Rattle.month_window.specs.Window.{Window}
 use Rattle.month_run_hours.specs.InRun.{distributedInRun, periodisedInRun, differenceInRun, lossInRun}
 use Rattle.month_run_hours.specs.Running.{RunKnown, RunLent, Running, RunIs}
 use Rattle.rules.specs.Month.{monthOf}

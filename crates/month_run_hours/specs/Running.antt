@@ -6,10 +6,10 @@ use lib.IntN.{ℤ, pos}
 use lib.ListN.{length, getD, set}
 use Rattle.apportion.specs.Good.{Good}
 use Rattle.apportion.specs.declared.Carries.{Carries}
-use Rattle.month.specs.Windows.{MonthKnown}
-use Rattle.month_file.specs.declared.Sections.{Sections}
-use Rattle.month_hour.specs.declared.Settled.{Settled}
-use Rattle.month_hours.specs.Hours.{Carried}
+use Rattle.month_sums.specs.Windows.{MonthKnown}
+use Rattle.file_sections.specs.declared.Sections.{Sections}
+use Rattle.hour_settled.specs.declared.Settled.{Settled}
+use Rattle.month_walk.specs.Hours.{Carried}
 use Rattle.month_run_hours.specs.InRun.{distributedInRun, periodisedInRun, differenceInRun, lossInRun}
 use Rattle.rules.specs.Limits.{greatestResidual, mostHours}
 use Rattle.rules.specs.Month.{monthOf, monthVerdict}

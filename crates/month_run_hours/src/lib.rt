@@ -2,14 +2,14 @@
 // distributed, periodised and difference, and the loss, written to lent outputs. Hours go in windows, so that no buffer of this crate is larger than 64 KiB,
 // and a reading costs its own hours of a window alone.
 use apportion::Carries;
-use month_file::Sections;
-use month_hour::Settled;
+use file_sections::Sections;
+use hour_settled::Settled;
 ghost use mathlib.Core.Path.{_≡_};
 ghost use Prim.Native.Nat.{_+_, _≤_, _<_};
 ghost use lib.IntN.{pos};
 ghost use lib.ListN.{length, set};
-ghost use Rattle.month.specs.Windows.{Span, Beginning, windowPlaces};
-ghost use Rattle.month_hours.specs.Hours.{HourKnown, WindowKnown, Carried};
+ghost use Rattle.month_sums.specs.Windows.{Span, Beginning, windowPlaces};
+ghost use Rattle.month_walk.specs.Hours.{HourKnown, WindowKnown, Carried};
 ghost use Rattle.month_run_hours.specs.Running.{Steppable, Stepped, RunKnown, RunLent, FilledOn, Running, HourLent, HourWritten, RunIs};
 ghost use Rattle.rules.specs.Month.{monthOf};
 
@@ -93,7 +93,7 @@ fn run_hour(
     let n = s.heading.parties as usize;
     let next = carries.step(residual_wh);
     let distributed = next.figures;
-    let settled = month_hours::settled_hour(
+    let settled = month_walk::settled_hour(
         file,
         s,
         distributed,
@@ -182,7 +182,7 @@ fn run_window(
     requires { ⌜ Running (monthOf (now file)) start (length (now «losses_wh»)) done carries (now «distributed_wh») (now «periodised_wh») (now «differences_wh») (now «losses_wh») ⌝ }
     ensures { λ r. ⌜ Running (monthOf (now (file .entry))) start (length (now («losses_wh» .entry))) (done + hours) r (now («distributed_wh» .exit)) (now («periodised_wh» .exit)) (now («differences_wh» .exit)) (now («losses_wh» .exit)) ⌝ }
 {
-    month_readings::window(file, s, curve, beginnings, start + done, hours, window);
+    month_window::window(file, s, curve, beginnings, start + done, hours, window);
     run_hours(
         file,
         s,
@@ -235,12 +235,12 @@ fn run_windows(
     ensures { λ _. ⌜ RunIs (monthOf (now (file .entry))) start (length (now («losses_wh» .entry))) (now («distributed_wh» .exit)) (now («periodised_wh» .exit)) (now («differences_wh» .exit)) (now («losses_wh» .exit)) ⌝ }
 {
     let n = s.heading.parties as usize;
-    let span = month::WINDOW_PLACES / n;
+    let span = month_sums::WINDOW_PLACES / n;
     let all = losses_wh.len();
     let mut next = carries;
     let mut done = 0;
     while done < all {
-        let hours = month::earlier(span, all - done);
+        let hours = month_sums::earlier(span, all - done);
         next = run_window(
             file,
             s,

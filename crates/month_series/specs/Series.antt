@@ -7,8 +7,8 @@ use Prim.Native.Nat.{ℕ, suc, _-_, _<_}
 use lib.Dec.{eqb, leb}
 use lib.ListN.{length}
 use Rattle.answer.specs.Said.{named}
-use Rattle.month_file.specs.Fields.{Accepted}
-use Rattle.month_file.specs.declared.Sections.{Sections}
+use Rattle.file_sections.specs.Fields.{Accepted}
+use Rattle.file_sections.specs.declared.Sections.{Sections}
 use Rattle.month_series.specs.declared.Judged.{Judged}
 use Rattle.month_series.specs.declared.Judged.the-variants.{Figures, Refused}
 use Rattle.rules.specs.Flows.{Flows, residualWh}

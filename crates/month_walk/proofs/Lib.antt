@@ -1,2 +1,5 @@
-pub mod Stepping
-pub mod Exits
+pub mod Bounds
+pub mod Settling
+pub mod Carrying
+pub mod Afterwards
+pub mod Windows

@@ -3,12 +3,12 @@ use mathlib.Core.List.{List}
 use mathlib.Core.Path.{_≡_, sym, _∙_, ap}
 use Rattle.answer.proofs.Said.{said-once}
 use Rattle.file_reader.proofs.Unique.{record-here-once, new-once, next-once, moved-once, first-once}
-use Rattle.hours_text.proofs.Unique.{report-unique}
+use Rattle.report_text.proofs.Unique.{report-unique}
 use Rattle.month_demands.proofs.Unique.{settle-unique}
-use Rattle.month_file.proofs.Unique.{read-unique}
+use Rattle.file_sections.proofs.Unique.{read-unique}
 use Rattle.month_run.proofs.MonthSums.{hours-unique}
 use Rattle.no_second.specs.NoSecond.{OneFits, Answered, Numbered, Services, ServicesForC, Records, Walks, WholeFiles, Answers, NoSecondResult}
-use Rattle.reconciliation.proofs.Unique.{reconciliation-once}
+use Rattle.reconcile_service.proofs.Unique.{reconciliation-once}
 use Rattle.record.proofs.Unique.{fault-once, read-once}
 use Rattle.record_write.proofs.Unique.{write-once}
 use Rattle.residual.proofs.Unique.{judge-once}

@@ -15,19 +15,19 @@ use Rattle.file_reader.specs.Walk.{placeAfter}
 use Rattle.file_reader.specs.declared.Reader.{Reader}
 use Rattle.gln.specs.Gln.{glnAnswer, glnPart}
 use Rattle.gln.specs.declared.Gln.{Gln}
-use Rattle.hours_text.specs.Reporting as Report
-use Rattle.hours_text.specs.declared.Reported.{Reported}
-use Rattle.month.specs.Told as Month
-use Rattle.month.specs.declared.Settlement.{Settlement}
-use Rattle.month_file.specs.Walk as File
-use Rattle.month_file.specs.declared.MonthRead.{MonthRead}
+use Rattle.report_text.specs.Reporting as Report
+use Rattle.report_text.specs.declared.Reported.{Reported}
+use Rattle.month_sums.specs.Told as Month
+use Rattle.month_sums.specs.declared.Settlement.{Settlement}
+use Rattle.file_sections.specs.Walk as File
+use Rattle.file_sections.specs.declared.MonthRead.{MonthRead}
 use Rattle.month_run.specs.Run as Run
-use Rattle.reconciliation.specs.Told as Hour
-use Rattle.reconciliation.specs.declared.Reconciled.{Reconciled}
+use Rattle.reconcile_service.specs.Told as Hour
+use Rattle.reconcile_service.specs.declared.Reconciled.{Reconciled}
 use Rattle.record.specs.Record.{recordOf, faultOf, glnIn, glnBytes, told}
 use Rattle.record.specs.declared.Read.{Read}
 use Rattle.record.specs.declared.Record.{Record}
-use Rattle.record_plain.specs.Plain.{plainVerdict, plainRecord}
+use Rattle.record_service.specs.Plain.{plainVerdict, plainRecord}
 use Rattle.record_write.specs.Writing.{wrote}
 use Rattle.record_write.specs.declared.Written.{Written}
 use Rattle.residual.specs.Applied.{appliedOf}

@@ -208,7 +208,7 @@ fn more_writes() {
 fn plain_case(kind: u64, numbers: &[i64]) {
     io::write_all(OUT, b"plain ");
     let mut part = [0u8; 36];
-    let w = record_plain::write_plain(kind, numbers, b"6291041500213", &mut part);
+    let w = record_service::write_plain(kind, numbers, b"6291041500213", &mut part);
     match w {
         Written::Bytes(n) => {
             io::print_decimal(OUT, n as u64);

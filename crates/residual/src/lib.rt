@@ -1,5 +1,5 @@
 // From flows to the curve (01 "From flows to the curve"): the residual of an hour and its judgement, the applied series, the curve. The curve service takes
-// any input; what it refuses, in which order and at which place stands in `curveChecks` of the rules. `residual_series` has the residual of a whole series.
+// any input; what it refuses, in which order and at which place stands in `curveChecks` of the rules. `residual_service` has the residual of a whole series.
 ghost use mathlib.Core.Path.{_≡_};
 ghost use Prim.Native.Nat.{_<_, _/_};
 ghost use lib.ListN.{length};

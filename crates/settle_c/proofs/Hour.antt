@@ -7,10 +7,10 @@ use lib.ListN.{length}
 use Rattle.answer.specs.Said.{said}
 use Rattle.answer.specs.declared.Answer.the-variants as A
 use Rattle.answer.specs.declared.Refusal.{Refusal}
-use Rattle.reconciliation.proofs.Unique.{Promised}
-use Rattle.reconciliation.specs.Told.{verdict, told}
-use Rattle.reconciliation.specs.declared.Reconciled.{Reconciled}
-use Rattle.reconciliation.specs.declared.Reconciled.the-variants.{Loss, Refused}
+use Rattle.reconcile_service.proofs.Unique.{Promised}
+use Rattle.reconcile_service.specs.Told.{verdict, told}
+use Rattle.reconcile_service.specs.declared.Reconciled.{Reconciled}
+use Rattle.reconcile_service.specs.declared.Reconciled.the-variants.{Loss, Refused}
 use Rattle.rules.specs.Refusals as R
 use Rattle.rules.specs.Refusals.{Verdict, first, afterwards, answer}
 use Rattle.rules.specs.Services.{reconciliationChecks, reconciliationLoss, reconciliationDifferences, reconciliationAmounts}

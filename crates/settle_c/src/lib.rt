@@ -1,7 +1,7 @@
 // The services of settlement as functions that C calls (include/sayarimu.h). Each takes what its service takes, promises what it promises, and answers 0
 // for accepted, else number + 256 x place (01 "Refusal numbers": "A refusal returns its number and a place, and the call has written nothing.").
 use answer::Answer;
-use reconciliation::Reconciled;
+use reconcile_service::Reconciled;
 ghost use mathlib.Core.Path.{_≡_};
 ghost use lib.ListN.{length};
 ghost use Rattle.answer.specs.Said.{said};
@@ -49,7 +49,7 @@ pub extern "C" fn settle_residual(
     ensures answer { λ r. ⌜ r ≡ coded (first (residualChecks (now (statuses .entry)) (now (nets .entry)) (now (productions .entry)) (now (hourlies .entry)) (now (flexes .entry)) (length (now (out .entry))))) ⌝ }
     ensures contents { λ _. ⌜ now (out .exit) ≡ afterwards (first (residualChecks (now (statuses .entry)) (now (nets .entry)) (now (productions .entry)) (now (hourlies .entry)) (now (flexes .entry)) (length (now (out .entry))))) (residualFigures (now (statuses .entry)) (now (nets .entry)) (now (productions .entry)) (now (hourlies .entry)) (now (flexes .entry))) (now (out .entry)) ⌝ }
 {
-    let answered = residual_series::residual(statuses, nets, productions, hourlies, flexes, out);
+    let answered = residual_service::residual(statuses, nets, productions, hourlies, flexes, out);
     code(answered)
 }
 
@@ -69,7 +69,7 @@ pub extern "C" fn settle_distribution(shares: &[u64], residuals: &[u32], out: &m
     ensures answer { λ r. ⌜ r ≡ coded (first (distributionChecks (now (shares .entry)) (now (residuals .entry)) (length (now (out .entry))))) ⌝ }
     ensures contents { λ _. ⌜ now (out .exit) ≡ afterwards (first (distributionChecks (now (shares .entry)) (now (residuals .entry)) (length (now (out .entry))))) (distributionFigures (now (shares .entry)) (now (residuals .entry))) (now (out .entry)) ⌝ }
 {
-    let answered = distribution::distribution(shares, residuals, out);
+    let answered = distribute_service::distribution(shares, residuals, out);
     code(answered)
 }
 
@@ -100,7 +100,7 @@ pub extern "C" fn settle_reconciliation(
     ensures differences { λ _. ⌜ now («differences_wh» .exit) ≡ afterwards (first (reconciliationChecks «residual_wh» (now («distributed_wh» .entry)) (now («periodised_wh» .entry)) carrier «price_ore» (length (now («differences_wh» .entry))) (length (now («amounts_millionths» .entry))))) (reconciliationDifferences «residual_wh» (now («distributed_wh» .entry)) (now («periodised_wh» .entry)) carrier) (now («differences_wh» .entry)) ⌝ }
     ensures amounts { λ _. ⌜ now («amounts_millionths» .exit) ≡ afterwards (first (reconciliationChecks «residual_wh» (now («distributed_wh» .entry)) (now («periodised_wh» .entry)) carrier «price_ore» (length (now («differences_wh» .entry))) (length (now («amounts_millionths» .entry))))) (reconciliationAmounts (reconciliationDifferences «residual_wh» (now («distributed_wh» .entry)) (now («periodised_wh» .entry)) carrier) «price_ore») (now («amounts_millionths» .entry)) ⌝ }
 {
-    let answered = reconciliation::reconciliation(
+    let answered = reconcile_service::reconciliation(
         residual_wh,
         distributed_wh,
         periodised_wh,

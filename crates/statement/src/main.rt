@@ -6,8 +6,8 @@
 use answer::Refusal;
 use libc::STDERR_FILENO;
 use libc::STDOUT_FILENO;
+use standard_input::Input;
 use statement_text::Stated;
-use streams::Input;
 ghost use lib.ListN.{length, take};
 ghost use mathlib.Core.Path.{_≡_};
 ghost use Prim.Native.Nat.{_≤_};
@@ -99,7 +99,7 @@ fn print_too_long() {
 
 fn main() {
     let mut buffer = io::large_buffer();
-    let input = streams::read_month(&mut buffer);
+    let input = standard_input::read_month(&mut buffer);
     match input {
         Input::Whole(n) => print_file(&buffer[0..n]),
         Input::TooLong => print_too_long(),

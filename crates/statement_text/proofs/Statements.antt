@@ -11,11 +11,11 @@ use Rattle.answer.specs.Said.{said, named}
 use Rattle.answer.specs.declared.Answer.the-variants.{Done}
 use Rattle.answer.specs.declared.Refusal.{Refusal}
 use Rattle.answer.specs.declared.Refusal.the-variants.{WrongLength}
-use Rattle.month.specs.Outcomes.{OutcomeIs}
-use Rattle.month.specs.declared.Outcome.{Outcome}
-use Rattle.month_file.specs.Fields.{Accepted}
-use Rattle.month_file.specs.declared.Sections.{Sections}
-use Rattle.month_file.proofs.AcceptedFile.{read-as, heading-text}
+use Rattle.month_sums.specs.Outcomes.{OutcomeIs}
+use Rattle.month_sums.specs.declared.Outcome.{Outcome}
+use Rattle.file_sections.specs.Fields.{Accepted}
+use Rattle.file_sections.specs.declared.Sections.{Sections}
+use Rattle.file_sections.proofs.AcceptedFile.{read-as, heading-text}
 use Rattle.rules.specs.Month.{monthOf, monthVerdict, verdictOn, fileVerdict}
 use Rattle.rules.specs.MonthFile.{MonthFile, readMonth}
 use Rattle.rules.specs.Refusals as R

@@ -1,5 +1,5 @@
 -- `hours::main` is safe: an input that was read whole lies within the buffer. Assumes nothing.
-use Rattle.streams.proofs.Counts.{whole-within}
+use Rattle.standard_input.proofs.Counts.{whole-within}
 use borrow.Author.Needs.{needs}
 use Rattle.hours.proofs.main.Statement.{statement}
 use Rattle.hours.proofs.main.Tie as tie

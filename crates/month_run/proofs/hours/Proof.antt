@@ -1,6 +1,6 @@
 -- `month_run::hours` meets its contract: refused in the reading, or what the month that was read comes to. Assumes nothing.
 use mathlib.Core.Path.{refl}
-use Rattle.month.proofs.Writing.{not-read, is-read}
+use Rattle.month_sums.proofs.Writing.{not-read, is-read}
 use Rattle.month_run.proofs.Answers.{refused-file}
 use borrow.Author.Needs.{needs}
 use Rattle.month_run.proofs.hours.Statement.{statement}

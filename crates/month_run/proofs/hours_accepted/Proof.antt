@@ -1,6 +1,6 @@
 -- `month_run::hours_accepted` meets its contract: the places are enough for every month. Assumes nothing.
 use native.Mathlib.Omega.{arith}
-use Rattle.month.proofs.Sizes.{places, few-parties, few-hours, few-refixed}
+use Rattle.month_sums.proofs.Sizes.{places, few-parties, few-hours, few-refixed}
 use borrow.Author.Needs.{needs}
 use Rattle.month_run.proofs.hours_accepted.Statement.{statement}
 use Rattle.month_run.proofs.hours_accepted.Tie as tie

@@ -1,6 +1,6 @@
 -- `month_run::hours_made` meets its contract: refused with the month or by what is asked, or written. Assumes nothing.
 use mathlib.Core.Path.{refl, _∙_}
-use Rattle.month.proofs.Writing.{month-refused}
+use Rattle.month_sums.proofs.Writing.{month-refused}
 use Rattle.month_run.proofs.Making.{none-refuses, run-known, begins}
 use Rattle.month_run.proofs.Answers.{refused-file, refused-run, run-lent, written}
 use borrow.Author.Needs.{needs}

@@ -1,7 +1,7 @@
 -- `month_run_hours::run_hour` meets its contract: `OneHour` says what one hour more comes to. Assumes nothing.
 use native.Mathlib.Omega.{arith}
 use Rattle.month_run_hours.proofs.OneHour.{ready, hour-lent, figures-are, hour-on}
-use Rattle.month_hours.proofs.Bounds.{few-hours}
+use Rattle.month_walk.proofs.Bounds.{few-hours}
 use borrow.Author.Needs.{needs}
 use Rattle.month_run_hours.proofs.run_hour.Statement.{statement}
 use Rattle.month_run_hours.proofs.run_hour.Tie as tie

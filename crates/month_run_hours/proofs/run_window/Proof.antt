@@ -1,7 +1,7 @@
 -- `month_run_hours::run_window` meets its contract: its places hold what is periodised, and then its hours are written. Assumes nothing.
 use native.Mathlib.Omega.{arith}
-use Rattle.month.proofs.OneWindow as W
-use Rattle.month_hours.proofs.Bounds.{few-hours}
+use Rattle.month_sums.proofs.OneWindow as W
+use Rattle.month_walk.proofs.Bounds.{few-hours}
 use Rattle.month_run_hours.proofs.Windows.{window-known}
 use borrow.Author.Needs.{needs}
 use Rattle.month_run_hours.proofs.run_window.Statement.{statement}

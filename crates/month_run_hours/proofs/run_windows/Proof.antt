@@ -4,7 +4,7 @@ use native.Mathlib.Omega.{arith}
 use mathlib.Core.Path.{sym, _∙_}
 use Rattle.rules.specs.Month.{monthOf}
 use lib.ListN.{length}
-use Rattle.month.proofs.Spans.{some, places-fit, hours-some}
+use Rattle.month_sums.proofs.Spans.{some, places-fit, hours-some}
 use Rattle.month_run_hours.proofs.Windows.{Windowing, windows-start, short, spans, left-here, running-now, windows-next, windows-end}
 use borrow.Author.Needs.{needs}
 use Rattle.month_run_hours.proofs.run_windows.Statement.{statement}

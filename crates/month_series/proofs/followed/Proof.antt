@@ -1,5 +1,5 @@
 -- `month_series::followed` meets its contract: what is left of the readings says what the whole says. Assumes nothing.
-use Rattle.month_file.proofs.AcceptedFile.{readings-are}
+use Rattle.file_sections.proofs.AcceptedFile.{readings-are}
 use Prim.Native.Nat.{_-_}
 use mathlib.Core.Path.{_≡_, sym}
 use lib.ListN.{length}

@@ -3,7 +3,7 @@ use mathlib.Core.Path.{_∙_, subst}
 use lib.IntN.{ℤ}
 use mir.Facts.{toZ-ofZ}
 use mir.Syntax.{w64}
-use Rattle.reconciliation.proofs.Unique.{Promised}
+use Rattle.reconcile_service.proofs.Unique.{Promised}
 use Rattle.settle_c.proofs.Hour.{loss-given, loss-kept, code-given, code-refused, lists-left}
 use borrow.Author.Needs.{needs}
 use Rattle.settle_c.proofs.settle_reconciliation.Statement.{statement}

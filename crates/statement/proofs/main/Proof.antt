@@ -1,6 +1,6 @@
 -- `statement::main` is safe: an input that was read whole lies within the buffer. Assumes nothing.
 use borrow.Author.Needs.{needs}
-use Rattle.streams.proofs.Counts.{whole-within}
+use Rattle.standard_input.proofs.Counts.{whole-within}
 use Rattle.statement.proofs.main.Statement.{statement}
 use Rattle.statement.proofs.main.Tie as tie
 

@@ -1,0 +1,36 @@
+-- Where the sections of a file start that was walked through, and what the reading of a file tells.
+use Prim.Native.Nat.{ℕ, _+_, _*_}
+use lib.ListN.{length}
+use Rattle.answer.specs.Said.{named}
+use Rattle.record.specs.declared.Heading as CHeading
+use Rattle.file_step.specs.declared.Walk.{Walk}
+use Rattle.file_sections.specs.declared.Sections.{Sections}
+use Rattle.file_sections.specs.declared.MonthRead.{MonthRead}
+use Rattle.file_sections.specs.declared.MonthRead.the-variants as M
+use Rattle.rules.specs.MonthFile.{MonthFile}
+use Rattle.rules.specs.Refusals.{Answer, given, refusal}
+
+-- where each section starts, of so many parties, hours and refixed hours: the heading has 10 bytes, a party 22, an hour 36, a price 7
+abbrev pub sectionsFor : CHeading.Heading → ℕ → ℕ → Sections
+sectionsFor h refixed readings =
+    record { heading = h; refixed = refixed; readings = readings; «parties_at» = 10; «fixed_at» = 10 + 22 * h .parties; «refixed_at» = 10 + 22 * h .parties + 36 * h .hours; «prices_at» = 10 + 22 * h .parties + 36 * h .hours + 36 * refixed; «readings_at» = 10 + 22 * h .parties + 36 * h .hours + 36 * refixed + 7 * h .hours }
+
+abbrev pub sectionsIn : Walk → Sections
+sectionsIn w = sectionsFor (w .heading) (w .refixed) (w .readings)
+
+-- the same of a month that was read
+unfoldable pub sectionsOf : MonthFile → Sections
+sectionsOf m =
+    sectionsFor
+    (record { area = m .heading .area; year = m .heading .year; month = m .heading .month; hours = m .heading .hours; parties = m .heading .parties; carrier = m .heading .carrier })
+    (length (m .refixed))
+    (length (m .readings))
+
+-- what the reading of a file tells, and what the rules give: the month's sections, or the refusal
+abbrev pub told : MonthRead → Answer Sections
+told (M.Accepted s) = given s
+told (M.Refused r place) = refusal (named r) place
+
+abbrev pub readAnswer : Answer MonthFile → Answer Sections
+readAnswer (given m) = given (sectionsOf m)
+readAnswer (refusal r place) = refusal r place

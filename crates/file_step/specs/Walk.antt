@@ -1,0 +1,136 @@
+-- How far the reading of a file has come, by numbers, and what month read so far it stands for; what one record more then does.
+use mathlib.Core.Bool.{Bool, true, false, cond, _&&_, _||_}
+use mathlib.Core.List.{List}
+use mathlib.Core.Path.{_≡_}
+use Prim.Native.Nat.{ℕ, _+_, _≤_, _<_}
+use lib.Dec.{eqb, leb, ltb}
+use lib.ListN.{length}
+use Rattle.answer.specs.Said.{named}
+use Rattle.answer.specs.declared.Answer as A
+use Rattle.answer.specs.declared.Answer.the-variants as AV
+use Rattle.answer.specs.declared.Refusal.the-variants.{WrongCount}
+use Rattle.gln.specs.declared.Gln.{Gln}
+use Rattle.gln.specs.declared.Gln.the-variants.{Valid, Invalid}
+use Rattle.record.specs.Record.{headingOf}
+use Rattle.record.specs.declared.Record.{Record}
+use Rattle.record.specs.declared.Record.the-variants.{Heading, Party, FixedHour, Reading, Price, RefixedHour, End}
+use Rattle.file_step.specs.declared.Walk.{Walk}
+use Rattle.file_step.specs.declared.Step.{Step}
+use Rattle.file_step.specs.declared.Step.the-variants as S
+use Rattle.rules.specs.Gln.{digitsOnto}
+use Rattle.rules.specs.Limits.{longestFile}
+use Rattle.rules.specs.MonthFile.{MonthFile, risesAfter, recordChecks, isEnd}
+use Rattle.rules.specs.MonthFile as F
+use Rattle.rules.specs.Record as RRecord
+use Rattle.rules.specs.Refusals.{accepted, refused, first}
+
+-- nothing read yet
+abbrev pub startOf : Walk
+startOf =
+    record { records = 0; heading = record { area = 0; year = 0; month = 0; hours = 0; parties = 0; carrier = 0 }; parties = 0; fixed = 0; refixed = 0; prices = 0; readings = 0; «last_gln» = 0 }
+
+-- the order of the records, by numbers: law `due-is` reads it as the rules' `due`
+abbrev pub dueIn : Walk → Record → Bool
+dueIn w (Heading h) = eqb (w .heading .hours) 0
+dueIn w (Party share) = ltb (w .parties) (w .heading .parties)
+dueIn w (FixedHour hour f) = eqb (w .parties) (w .heading .parties) && ltb (w .fixed) (w .heading .hours) && eqb hour (w .fixed)
+dueIn w (Reading r) = leb 1 (w .heading .hours) && eqb (w .prices) (w .heading .hours)
+dueIn w (Price hour p) =
+    eqb (w .fixed) (w .heading .hours) && (eqb (w .refixed) 0 || eqb (w .refixed) (w .heading .hours))
+    && ltb (w .prices) (w .heading .hours)
+    && eqb hour (w .prices)
+dueIn w (RefixedHour hour f) =
+    eqb (w .fixed) (w .heading .hours) && ltb (w .refixed) (w .heading .hours) && eqb (w .prices) 0 && eqb hour (w .refixed)
+dueIn w (End count) = leb 1 (w .heading .hours) && eqb (w .prices) (w .heading .hours)
+
+-- "GLNs rise strictly.": against the number of the last one
+abbrev pub risesIn : Walk → Gln → Bool
+risesIn w (Valid number) = eqb (w .parties) 0 || ltb (w .«last_gln») number
+risesIn w Invalid = true
+
+abbrev pub numberIn : Gln → ℕ
+numberIn (Valid number) = number
+numberIn Invalid = 0
+
+-- with one record more
+abbrev pub withIn : Walk → Record → Gln → Walk
+withIn w (Heading h) g =
+    record { records = w .records + 1; heading = h; parties = w .parties; fixed = w .fixed; refixed = w .refixed; prices = w .prices; readings = w .readings; «last_gln» = w .«last_gln» }
+withIn w (Party share) g =
+    record { records = w .records + 1; heading = w .heading; parties = w .parties + 1; fixed = w .fixed; refixed = w .refixed; prices = w .prices; readings = w .readings; «last_gln» = numberIn g }
+withIn w (FixedHour hour f) g =
+    record { records = w .records + 1; heading = w .heading; parties = w .parties; fixed = w .fixed + 1; refixed = w .refixed; prices = w .prices; readings = w .readings; «last_gln» = w .«last_gln» }
+withIn w (Reading r) g =
+    record { records = w .records + 1; heading = w .heading; parties = w .parties; fixed = w .fixed; refixed = w .refixed; prices = w .prices; readings = w .readings + 1; «last_gln» = w .«last_gln» }
+withIn w (Price hour p) g =
+    record { records = w .records + 1; heading = w .heading; parties = w .parties; fixed = w .fixed; refixed = w .refixed; prices = w .prices + 1; readings = w .readings; «last_gln» = w .«last_gln» }
+withIn w (RefixedHour hour f) g =
+    record { records = w .records + 1; heading = w .heading; parties = w .parties; fixed = w .fixed; refixed = w .refixed + 1; prices = w .prices; readings = w .readings; «last_gln» = w .«last_gln» }
+withIn w (End count) g =
+    record { records = w .records + 1; heading = w .heading; parties = w .parties; fixed = w .fixed; refixed = w .refixed; prices = w .prices; readings = w .readings; «last_gln» = w .«last_gln» }
+
+-- no more of any kind than records
+pub record Counted (w : Walk) : Type 0 where
+  pub parties : w .parties ≤ w .records
+  pub fixed : w .fixed ≤ w .records
+  pub refixed : w .refixed ≤ w .records
+  pub prices : w .prices ≤ w .records
+  pub readings : w .readings ≤ w .records
+
+-- and fewer records than a file has bytes
+pub record Few (w : Walk) : Type 0 where
+  pub records : w .records < longestFile
+  pub counted : Counted w
+
+-- the month read so far that the numbers stand for
+pub record Stands (m : MonthFile) (w : Walk) : Type 0 where
+  pub heading : headingOf (w .heading) ≡ m .heading
+  pub parties : w .parties ≡ length (m .parties)
+  pub fixed : w .fixed ≡ length (m .fixed)
+  pub refixed : w .refixed ≡ length (m .refixed)
+  pub prices : w .prices ≡ length (m .prices)
+  pub readings : w .readings ≡ length (m .readings)
+  pub rising : (p : RRecord.Party) → risesAfter (m .parties) p ≡ eqb (w .parties) 0 || ltb (w .«last_gln») (digitsOnto 0 (p .gln))
+
+-- what a step says of the record at the start of the bytes, for the month that has been read so far
+abbrev pub StepMeans : Walk → List ℕ → MonthFile → Step → Type 0
+StepMeans w bytes m (S.Next v size) =
+    (first (recordChecks m (w .records) bytes) ≡ accepted) × (isEnd (RRecord.recordAt bytes) ≡ false)
+    × Stands (F.with m (RRecord.recordAt bytes)) v
+StepMeans w bytes m S.End = (first (recordChecks m (w .records) bytes) ≡ accepted) × (isEnd (RRecord.recordAt bytes) ≡ true)
+StepMeans w bytes m (S.Refused r place) = first (recordChecks m (w .records) bytes) ≡ refused (named r) place
+
+-- of a step that goes on: so many bytes further, one record more
+abbrev pub StepMoves : Walk → List ℕ → Step → Type 0
+StepMoves w bytes (S.Next v size) =
+    (size ≡ 1 + RRecord.bodyLength (RRecord.kindAt bytes)) × (v .records ≡ w .records + 1) × Counted v × (size ≤ length bytes)
+StepMoves w bytes S.End = (RRecord.bodyLength (RRecord.kindAt bytes) ≡ 4) × (5 ≤ length bytes)
+StepMoves w bytes (S.Refused r place) = Unit
+
+pub record Stepped (w : Walk) (bytes : List ℕ) (r : Step) : Type 0 where
+  pub means : (m : MonthFile) → Stands m w → StepMeans w bytes m r
+  pub moves : StepMoves w bytes r
+
+pub record Steppable (w : Walk) (bytes : List ℕ) : Type 0 where
+  pub few : Few w
+  pub some : 1 ≤ length bytes
+
+abbrev pub refusedBy : A.Answer → Step
+refusedBy AV.Done = S.End
+refusedBy (AV.Refused r place) = S.Refused r place
+
+abbrev pub movedIn : Walk → Record → Gln → ℕ → Step
+movedIn w r g size = S.Next (withIn w r g) (size + 1)
+
+abbrev pub countedIn : Walk → ℕ → Step
+countedIn w count = cond (eqb count (w .records)) S.End (S.Refused WrongCount (w .records))
+
+-- the last of a record's checks, and what it comes to
+abbrev pub judgedIn : Walk → Record → Gln → ℕ → Step
+judgedIn w (Heading h) g size = movedIn w (Heading h) g size
+judgedIn w (Party share) g size = movedIn w (Party share) g size
+judgedIn w (FixedHour hour f) g size = movedIn w (FixedHour hour f) g size
+judgedIn w (Reading r) g size = movedIn w (Reading r) g size
+judgedIn w (Price hour p) g size = movedIn w (Price hour p) g size
+judgedIn w (RefixedHour hour f) g size = movedIn w (RefixedHour hour f) g size
+judgedIn w (End count) g size = countedIn w count

@@ -1,0 +1,53 @@
+-- `month_prepare::curve_and_readings` meets its contract: the curve decides first, then the readings. Assumes nothing.
+use native.Mathlib.Omega.{arith}
+use Prim.Native.Nat.{suc}
+use mathlib.Core.Path.{sym, _∙_, ap}
+use Rattle.month_prepare.proofs.Numbers.{few, curve-refused, numbers-many, begun-are, curve-known}
+use borrow.Author.Needs.{needs}
+use Rattle.month_prepare.proofs.curve_and_readings.Statement.{statement}
+use Rattle.month_prepare.proofs.curve_and_readings.Tie as tie
+
+curve-requires : tie.Need-curve-requires
+curve-requires c κs = search needs
+
+enum-told : tie.Need-enum-told
+enum-told c = search needs
+
+enum-told-2 : tie.Need-enum-told-2
+enum-told-2 c = search needs
+
+same-length : tie.Need-same-length
+same-length c = search needs
+
+returns : tie.Need-returns
+returns c = curve-refused (c .before .before .before .before .before .before .before .before .before .before .pre) (c .before .before .before .before .curve .ensures .0) _ (c .before .before .before .before .curve .ensures .1) (c .enum-told2 .given .1) _
+
+beginnings-requires : tie.Need-beginnings-requires
+beginnings-requires c κs = (c .before .before .before .before .before .before .before .before .before .before .before .before .pre .beginnings-size ∙ ap suc (sym (numbers-many (c .before .before .before .before .before .before .before .before .before .before .before .before .pre) (c .before .before .before .before .before .before .curve .ensures .0) _ (c .before .before .before .before .before .before .curve .ensures .1) (c .before .before .enum-told .given .1))), omega (arith, few (c .before .before .before .before .before .before .before .before .before .before .before .before .pre), numbers-many (c .before .before .before .before .before .before .before .before .before .before .before .before .pre) (c .before .before .before .before .before .before .curve .ensures .0) _ (c .before .before .before .before .before .before .curve .ensures .1) (c .before .before .enum-told .given .1)))
+
+followed-requires : tie.Need-followed-requires
+followed-requires c κs = (c .before .before .before .before .before .before .before .before .before .before .before .before .before .before .before .before .pre .accepted, begun-are (c .before .before .before .before .before .before .before .before .before .before .before .before .before .before .before .before .pre) (c .before .before .before .before .before .before .before .before .before .before .curve .ensures .0) _ (c .before .before .before .before .before .before .before .before .before .before .curve .ensures .1) (c .before .before .before .before .before .before .enum-told .given .1) (c .before .before .before .beginnings .ensures))
+
+same-length-2 : tie.Need-same-length-2
+same-length-2 c = search needs
+
+same-length-3 : tie.Need-same-length-3
+same-length-3 c = search needs
+
+returns-2 : tie.Need-returns-2
+returns-2 c = curve-known (c .before .before .before .before .before .before .before .before .before .before .before .before .before .before .before .before .before .pre) (c .before .before .before .before .before .before .before .before .before .before .before .curve .ensures .0) _ (c .before .before .before .before .before .before .before .before .before .before .before .curve .ensures .1) (c .before .before .before .before .before .before .before .enum-told .given .1) (c .before .before .before .before .beginnings .ensures) (c .followed .result) (c .followed .ensures)
+
+pub curve-and-readings-spec : {M : Type 1} → statement M
+curve-and-readings-spec =
+    tie.close
+    (tie.spec
+    curve-requires
+    enum-told
+    enum-told-2
+    same-length
+    returns
+    beginnings-requires
+    followed-requires
+    same-length-2
+    same-length-3
+    returns-2)

@@ -1,0 +1,108 @@
+-- The refusals after a file is read, up to the readings (01 "Refusal numbers"): "Then 6; then the fixed hours in order, each 7, 8, 9; the refixed hours
+-- likewise; 10 by hour; 13 by reading"; and what is made on the way.
+use mathlib.Core.List.{List}
+use mathlib.Core.Path.{_≡_}
+use Prim.Native.Nat.{ℕ, suc, _≤_, _<_}
+use lib.IntN.{pos}
+use lib.ListN.{length, replicate}
+use Rattle.answer.specs.Said.{said}
+use Rattle.apportion.specs.Good.{Started}
+use Rattle.apportion.specs.declared.Carries.{Carries}
+use Rattle.month_prepare.specs.declared.Made.{Made}
+use Rattle.file_sections.specs.Fields.{Accepted}
+use Rattle.file_sections.specs.declared.Sections.{Sections}
+use Rattle.month_series.specs.Series.{residualAt, judgedVerdict, beginningsOf}
+use Rattle.month_series.specs.declared.Judged.{Judged}
+use Rattle.month_series.specs.declared.Judged.the-variants.{Figures}
+use Rattle.rules.specs.Limits.{greatestW, greatestCurveNumber}
+use Rattle.rules.specs.Month.{monthOf, shareOf, monthW, fixedWh, curve, estimatedHours, hourVerdict, curveVerdict, readingVerdict}
+use Rattle.rules.specs.MonthFile.{MonthFile, H, P}
+use Rattle.rules.specs.Refusals.{wOutOfRange, Verdict, accepted, unless, andThen, inTurn}
+use Rattle.rules.specs.Words as Words
+use Rattle.rules.proofs.Month as M
+
+-- the two series alone
+unfoldable pub hoursVerdict : MonthFile → Verdict
+hoursVerdict m = andThen (inTurn (H m) (hourVerdict (m .fixed))) (inTurn (length (m .refixed)) (hourVerdict (m .refixed)))
+
+-- "6; then the fixed hours in order, each 7, 8, 9; the refixed hours likewise"
+unfoldable pub seriesVerdict : MonthFile → Verdict
+seriesVerdict m =
+    andThen (unless (Words.within 1 greatestW (monthW m)) wOutOfRange 0)
+    (hoursVerdict m)
+
+-- "10 by hour; 13 by reading"
+unfoldable pub curveReadingsVerdict : MonthFile → Verdict
+curveReadingsVerdict m = andThen (inTurn (H m) (curveVerdict m)) (inTurn (length (m .readings)) (readingVerdict m))
+
+-- every check before the hours
+unfoldable pub makingVerdict : MonthFile → Verdict
+makingVerdict m = andThen (seriesVerdict m) (curveReadingsVerdict m)
+
+pub record BothAsked (file : List ℕ) (s : Sections) (fixed refixed : ℕ) : Type 0 where
+  pub accepted : Accepted file s
+  pub fixed-size : fixed ≡ s .heading .hours
+  pub refixed-size : refixed ≡ s .refixed
+
+pub record BothKnown (m : MonthFile) (r : Judged) (fixed refixed : List ℕ) : Type 0 where
+  pub verdict : judgedVerdict r ≡ hoursVerdict m
+  pub fixed-is : judgedVerdict r ≡ accepted → fixed ≡ Words.figures (H m) (fixedWh m)
+  pub refixed-is : judgedVerdict r ≡ accepted → refixed ≡ Words.figures (length (m .refixed)) (residualAt (m .refixed))
+  pub estimated : (n : ℕ) → r ≡ Figures n → n ≡ estimatedHours m
+
+-- with W before them; what is lent for the shares and the two series is a place for each
+pub record SeriesAsked (file : List ℕ) (s : Sections) (shares fixed refixed : ℕ) : Type 0 where
+  pub accepted : Accepted file s
+  pub shares-size : shares ≡ s .heading .parties
+  pub fixed-size : fixed ≡ s .heading .hours
+  pub refixed-size : refixed ≡ s .refixed
+
+pub record SeriesKnown (m : MonthFile) (r : Judged) (shares fixed refixed : List ℕ) : Type 0 where
+  pub verdict : judgedVerdict r ≡ seriesVerdict m
+  pub shares-are : shares ≡ Words.figures (P m) (shareOf m)
+  pub fixed-is : judgedVerdict r ≡ accepted → fixed ≡ Words.figures (H m) (fixedWh m)
+  pub refixed-is : judgedVerdict r ≡ accepted → refixed ≡ Words.figures (length (m .refixed)) (residualAt (m .refixed))
+  pub estimated : (n : ℕ) → r ≡ Figures n → n ≡ estimatedHours m
+
+-- what the curve is made of: hours that are judged, and W
+pub record CurveAsked (file : List ℕ) (s : Sections) (fixed : List ℕ) (w curveNumbers beginnings : ℕ) : Type 0 where
+  pub accepted : Accepted file s
+  pub judged : M.Judged (monthOf file)
+  pub fixed-is : fixed ≡ Words.figures (H (monthOf file)) (fixedWh (monthOf file))
+  pub w-is : w ≡ monthW (monthOf file)
+  pub curve-size : curveNumbers ≡ H (monthOf file)
+  pub beginnings-size : beginnings ≡ suc (H (monthOf file))
+
+pub record CurveKnown (m : MonthFile) (v : Verdict) (curveNumbers beginnings : List ℕ) : Type 0 where
+  pub verdict : v ≡ curveReadingsVerdict m
+  pub curve-is : v ≡ accepted → curveNumbers ≡ Words.figures (H m) (curve m)
+  pub beginnings-are : v ≡ accepted → beginnings ≡ beginningsOf m
+
+-- a place lent for each share, hour, curve number and beginning
+pub record MakingAsked (file : List ℕ) (s : Sections) (shares fixed refixed curveNumbers beginnings : ℕ) : Type 0 where
+  pub accepted : Accepted file s
+  pub shares-size : shares ≡ s .heading .parties
+  pub fixed-size : fixed ≡ s .heading .hours
+  pub refixed-size : refixed ≡ s .refixed
+  pub curve-size : curveNumbers ≡ s .heading .hours
+  pub beginnings-size : beginnings ≡ suc (s .heading .hours)
+
+-- the carries of no party, where a month is refused before there is a W
+abbrev pub nothingCarried : Carries
+nothingCarried =
+    record { parties = 0; w = 0; «sum_wh» = 0; left = 0; share = replicate 64 0; remainder = replicate 64 0; extra = replicate 64 0; figures = replicate 64 (pos 0) }
+
+-- WHAT IS MADE of a month that none of these checks refuses
+pub record Making (m : MonthFile) (r : Made) (fixed refixed curveNumbers beginnings : List ℕ) : Type 0 where
+  pub judged : M.Judged m
+  pub estimated : r .estimated ≡ estimatedHours m
+  pub started : Started (Words.figures (P m) (shareOf m)) (r .carries)
+  pub fixed-is : fixed ≡ Words.figures (H m) (fixedWh m)
+  pub refixed-is : refixed ≡ Words.figures (length (m .refixed)) (residualAt (m .refixed))
+  pub curve-is : curveNumbers ≡ Words.figures (H m) (curve m)
+  pub curve-fits : (t : ℕ) → t < H m → curve m t ≤ greatestCurveNumber
+  pub beginnings-are : beginnings ≡ beginningsOf m
+
+pub record MadeIs (m : MonthFile) (r : Made) (fixed refixed curveNumbers beginnings : List ℕ) : Type 0 where
+  pub verdict : said (r .answer) ≡ makingVerdict m
+  pub made : said (r .answer) ≡ accepted → Making m r fixed refixed curveNumbers beginnings

@@ -1,0 +1,204 @@
+-- A reading added to a window: what the periodisation of its part asks, and what the lent places then hold. The places of one party do not meet those of
+-- another, and outside the part the reading has no figure.
+use mathlib.Core.Bool.{Bool, true, false}
+use mathlib.Core.List.{List}
+use mathlib.Core.Logic.{_⊎_, inl, inr, ⊎-elim}
+use mathlib.Core.Path.{_≡_, refl, sym, _∙_, ap, ap₂}
+use Prim.Native.Nat.{ℕ, suc, _+_, _-_, _*_, _≤_, _<_, max, min}
+use native.Mathlib.Nat.{le-trans, mul-le-mul-right, eq-or-lt-of-le}
+use native.Mathlib.Omega.{arith}
+use borrow.Author.Tests.{eqb-true, eqb-false, eq-eqb}
+use borrow.Rule.Slice.PartMut.{midOf, putMid, mid-len, same-len-mid}
+use lib.Dec.{eqb}
+use lib.ListN.{length}
+use Rattle.month_series.specs.Series.{beginning}
+use Rattle.month_window.specs.Window.{figureBy, figureTo, Taken, Added}
+use Rattle.month_window.proofs.Figures.{between, figure-at-most, figure-inside, none-before, none-after, part-growth}
+use Rattle.month_window.proofs.Parts.{part-at, before-part, in-part, after-part}
+use Rattle.periodise.specs.Growth.{growthFrom, grownFrom, Part, Room}
+use Rattle.periodise.proofs.Growth.{sum-rises}
+use Rattle.periodise.proofs.Order.{sum-bound}
+use Rattle.rules.specs.Limits.{greatestCurveNumber, greatestEnergy}
+use Rattle.rules.specs.Record.{Reading}
+use Rattle.rules.specs.Words.{sum, at, figures}
+use Rattle.rules.proofs.LargestRemainder.{less-cases}
+use Rattle.rules.proofs.Loops.{figures-length, figures-at}
+use Rattle.rules.proofs.Sums.{sum-cong}
+
+module _ (weight : ℕ → ℕ) (r : Reading) (i t : ℕ) where
+  to-its-party : i ≡ r .party → figureTo weight r i t ≡ figureBy weight r t
+  unfolding figureTo
+  to-its-party e = rw (eq-eqb (r .party) i (sym e))
+
+  to-another : eqb (r .party) i ≡ false → figureTo weight r i t ≡ 0
+  unfolding figureTo
+  to-another e = rw e
+
+module _ {r : Reading} {curve beginnings : List ℕ} {start hours : ℕ} {out : List ℕ} (t : Taken r curve beginnings start hours out) where
+  -- the beginnings rise
+  pub ordered : {a b : ℕ} → a ≤ b → b ≤ length curve → (a < length beginnings) × ((b < length beginnings) × (at beginnings a ≤ at beginnings b))
+  unfolding beginning
+  ordered {a} {b} h i =
+      (omega (arith, t .all-begun), (omega (arith, t .all-begun), rw (t .begun a (le-trans h i), t .begun b i) (sum-rises (at curve) h)))
+
+  weighs : {a b v : ℕ} → a ≤ b → b ≤ length curve → v ≡ at beginnings b - at beginnings a → v ≡ sum (b - a) (λ k. at curve (a + k))
+  weighs {a} {b} h i e =
+      e ∙ ap₂ (λ (x y : ℕ). x - y) (t .begun b i) (t .begun a (le-trans h i)) ∙ between (at curve) h
+
+  -- the part of the reading's hours that lies in the window
+  module _ {begin end : ℕ} (first : begin ≡ max (r .a) start) (last : end ≡ min (r .b) (start + hours)) where
+    abbrev low : ℕ
+    low = r .party * hours + (begin - start)
+
+    abbrev high : ℕ
+    high = r .party * hours + (end - start)
+
+    -- outside it the reading has no figure
+    no-figure : (k : ℕ) → k < hours → (start + k < begin) ⊎ (end ≤ start + k) → figureBy (at curve) r (start + k) ≡ 0
+    no-figure k b out-of =
+        ⊎-elim (λ (l : start + k < begin). none-before (at curve) r (start + k) (omega arith))
+        (λ (g : end ≤ start + k). none-after (at curve) r (start + k) (omega arith)) out-of
+
+    -- a place of the window lies outside the part, and there is no figure for it, or it is the party's own, in an hour of the part
+    abbrev Outside : ℕ → ℕ → Type 0
+    Outside i k = (figureTo (at curve) r i (start + k) ≡ 0) × ((i * hours + k < low) ⊎ (high ≤ i * hours + k))
+
+    abbrev Inside : ℕ → ℕ → Type 0
+    Inside i k = (i ≡ r .party) × (begin ≤ start + k) × (start + k < end)
+
+    placed : (i k : ℕ) → k < hours → Outside i k ⊎ Inside i k
+    placed i k b = go (eqb (r .party) i) refl
+      where
+        own : i ≡ r .party → Outside i k ⊎ Inside i k
+        own e =
+            let same : i * hours ≡ r .party * hours = ap (λ (x : ℕ). x * hours) e in
+            ⊎-elim
+            (λ (l : (start + k < begin) × _).
+            let l′ : start + k < begin = l .0 in
+            inl (to-its-party (at curve) r i (start + k) e ∙ no-figure k b (inl l′), inl (omega arith)))
+            (λ (g : (begin ≤ start + k) × _).
+            let g′ : begin ≤ start + k = g .0 in
+            ⊎-elim (λ (l : (start + k < end) × _). inr (e, g′, l .0))
+            (λ (n : (end ≤ start + k) × _).
+            let n′ : end ≤ start + k = n .0 in
+            inl (to-its-party (at curve) r i (start + k) e ∙ no-figure k b (inr n′), inr (omega arith)))
+            (less-cases (start + k) end))
+            (less-cases (start + k) begin)
+
+        another : eqb (r .party) i ≡ false → (i * hours + k < low) ⊎ (high ≤ i * hours + k)
+        another e =
+            ⊎-elim
+            (λ (l : (i < r .party) × _).
+            inl (omega (arith, mul-le-mul-right {m = suc i} {n = r .party} hours (l .0))))
+            (λ (g : (r .party ≤ i) × _).
+            ⊎-elim (λ (z : r .party ≡ i). absurd (eqb-false (r .party) i e z))
+            (λ (l : r .party < i). inr (omega (arith, mul-le-mul-right {m = suc (r .party)} {n = i} hours l)))
+            (eq-or-lt-of-le (g .0)))
+            (less-cases i (r .party))
+
+        go : (x : Bool) → eqb (r .party) i ≡ x → Outside i k ⊎ Inside i k
+        go true e = own (sym (eqb-true (r .party) i e))
+        go false e = inl (to-another (at curve) r i (start + k) e, another e)
+
+    -- NOTHING OF IT: no hour of the reading lies in the window
+    pub none-added : end ≤ begin → Added r curve start hours out out
+    none-added none =
+        record {
+          size = refl;
+          each = λ i k b.
+              ⊎-elim (λ (o : Outside i k). omega (arith, o .0))
+              (λ (p : Inside i k). absurd (omega (arith, p .1, p .2)))
+              (placed i k b);
+        }
+
+    -- SOME OF IT
+    module _ (some : begin < end) {before whole : ℕ} (before-is : before ≡ at beginnings begin - at beginnings (r .a)) (whole-is : whole ≡ at beginnings (r .b) - at beginnings (r .a)) where
+      abbrev weights : List ℕ
+      weights = midOf begin (end - begin) curve
+
+      abbrev lent : List ℕ
+      lent = midOf low (high - low) out
+
+      hours-of-part : length weights ≡ end - begin
+      hours-of-part = mid-len begin end curve (omega (arith, t .in-month))
+
+      places-of-part : length lent ≡ high - low
+      places-of-part = mid-len low high out (omega (arith, t .places))
+
+      before-weighs : before ≡ sum (begin - r .a) (λ k. at curve (r .a + k))
+      before-weighs = weighs (omega arith) (omega (arith, t .in-month)) before-is
+
+      whole-weighs : whole ≡ sum (r .b - r .a) (λ k. at curve (r .a + k))
+      whole-weighs = weighs (t .forwards) (t .in-month) whole-is
+
+      -- the part's growths are the reading's figures
+      growths : (k : ℕ) → k < end - begin → growthFrom (r .e) before whole (at weights) k ≡ figureBy (at curve) r (begin + k)
+      growths k b =
+          part-growth (at curve) r (omega arith) before-weighs whole-weighs {part = at weights} k (omega arith)
+          (λ i c. part-at begin end curve i (omega arith))
+
+      -- which are none of them above E
+      growth-small : (k : ℕ) → k < end - begin → growthFrom (r .e) before whole (at weights) k ≤ greatestEnergy
+      growth-small k b =
+          rw (growths k b, figure-inside (at curve) r (begin + k) (omega arith) (omega arith))
+          (le-trans (figure-at-most (r .e) (r .b - r .a) (λ j. at curve (r .a + j)) (begin + k - r .a) (omega arith)) (t .energy))
+
+      -- what the periodisation asks
+      part-weighs : sum (length weights) (at weights) ≡ at beginnings end - at beginnings begin
+      unfolding beginning
+      part-weighs =
+          ap (λ (n : ℕ). sum n (at weights)) hours-of-part
+          ∙ sum-cong (end - begin) {f = at weights} {g = λ k. at curve (begin + k)} (λ k b. part-at begin end curve k b)
+          ∙ sym (weighs {a = begin} {b = end} (omega arith) (omega (arith, t .in-month)) refl)
+
+      pub part-asked : Part (r .e) before whole weights (length lent)
+      unfolding beginning
+      part-asked =
+          record {
+            energy = t .energy;
+            inside = omega (arith, part-weighs, ordered {a = r .a} {b = begin} (omega arith) (omega (arith, t .in-month)) .1 .1, ordered {a = begin} {b = end} (omega arith) (omega (arith, t .in-month)) .1 .1, ordered {a = end} {b = r .b} (omega arith) (t .in-month) .1 .1);
+            most = omega (arith, t .few, t .in-month, t .begun (r .b) (t .in-month), sum-bound (r .b) (at curve) greatestCurveNumber (λ i c. t .fits i (omega (arith, t .in-month))));
+            size = omega (arith, places-of-part, hours-of-part);
+          }
+
+      pub room-asked : Room lent (r .e) before whole weights
+      unfolding Room grownFrom
+      room-asked k b =
+          let inside : k < end - begin = omega (arith, hours-of-part) in
+          let same : r .party * hours + (begin - start + k) ≡ low + k = omega arith in
+          omega (arith, growth-small k inside, part-at low high out k (omega arith), t .room (begin - start + k) (omega arith), ap (at out) same)
+
+      module _ {ys : List ℕ} (given : ys ≡ figures (length weights) (grownFrom lent (r .e) before whole (at weights))) where
+        as-many : length ys ≡ high - low
+        as-many = ap length given ∙ figures-length (length weights) _ ∙ omega (arith, hours-of-part)
+
+        inside-part : (i k : ℕ) → i ≡ r .party → begin ≤ start + k → start + k < end → at (putMid low (high - low) out ys) (i * hours + k) ≡ at out (i * hours + k) + figureTo (at curve) r i (start + k)
+        unfolding at grownFrom
+        inside-part i k e from-there to-there =
+            let k′ = start + k - begin in
+            let same : i * hours ≡ r .party * hours = ap (λ (x : ℕ). x * hours) e in
+            let there : i * hours + k ≡ low + k′ = omega arith in
+            let when : begin + k′ ≡ start + k = omega arith in
+            ap (at (putMid low (high - low) out ys)) there
+            ∙ in-part low high out ys (omega arith) (omega (arith, t .places)) as-many k′ (omega arith)
+            ∙ ap (λ (l : List ℕ). at l k′) given
+            ∙ figures-at (length weights) (grownFrom lent (r .e) before whole (at weights)) k′ 0 (omega (arith, hours-of-part))
+            ∙ ap₂ (λ (x y : ℕ). x + y) (part-at low high out k′ (omega arith) ∙ ap (at out) (sym there))
+            (growths k′ (omega arith) ∙ ap (figureBy (at curve) r) when ∙ sym (to-its-party (at curve) r i (start + k) e))
+
+        pub part-added : Added r curve start hours out (putMid low (high - low) out ys)
+        part-added =
+            record {
+              size = same-len-mid low (high - low) out ys (as-many ∙ sym places-of-part);
+              each = λ i k b.
+                  ⊎-elim
+                  (λ (o : Outside i k).
+                  ⊎-elim
+                  (λ (l : i * hours + k < low).
+                  omega (arith, o .0, before-part low high out ys (omega arith) (omega (arith, t .places)) as-many (i * hours + k) l))
+                  (λ (g : high ≤ i * hours + k).
+                  omega (arith, o .0, after-part low high out ys (omega arith) (omega (arith, t .places)) as-many (i * hours + k) g))
+                  (o .1))
+                  (λ (p : Inside i k). inside-part i k (p .0) (p .1) (p .2))
+                  (placed i k b);
+            }

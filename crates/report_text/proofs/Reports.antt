@@ -1,0 +1,95 @@
+-- The report of a file: its parts in the three buffers, or its refusal.
+use mathlib.Core.Bool.{Bool, true, false, _&&_}
+use mathlib.Core.List.{List, _++_}
+use mathlib.Core.Path.{_≡_, refl, sym, _∙_, ap, ap₂}
+use Prim.Native.Nat.{ℕ}
+use native.Mathlib.Omega.{arith}
+use borrow.Author.Tests.{le-leb, leb-true}
+use lib.Dec.{leb}
+use lib.ListN.{length}
+use Rattle.answer.specs.Said.{named}
+use Rattle.answer.specs.declared.Refusal.{Refusal}
+use Rattle.answer.specs.declared.Refusal.the-variants.{WrongLength}
+use Rattle.report_text.specs.Lines.{firstRoom, restRoom, partiesRoom, firstPart, restPart, partiesPart, Roomy}
+use Rattle.report_text.specs.Reporting.{lengthsOf, rooms, reportVerdict, Promised}
+use Rattle.report_text.specs.declared.Reported.the-variants as S
+use Rattle.report_text.proofs.Parts.{parts-make-the-report}
+use Rattle.file_sections.specs.Fields.{Accepted}
+use Rattle.file_sections.specs.declared.Sections.{Sections}
+use Rattle.file_sections.proofs.AcceptedFile.{read-as, month-of}
+use Rattle.rules.specs.HoursReport.{judgedReport, answeredReport, hoursReport}
+use Rattle.rules.specs.Month.{monthOf, monthVerdict, verdictOn, fileVerdict}
+use Rattle.rules.specs.MonthFile.{MonthFile, readMonth}
+use Rattle.rules.specs.Refusals as R
+use Rattle.rules.specs.Statement.{refusalLine}
+use Rattle.rules.proofs.Whole.{both-pass}
+use Rattle.text.specs.Text.{LinePut, atStart}
+use Rattle.text.proofs.Puts.{put-at-start}
+
+module _ (first rest parties : ℕ) where
+  -- room in each buffer
+  pub roomy : rooms first rest parties ≡ true → Roomy first rest parties
+  unfolding rooms
+  roomy e =
+      let both = both-pass (leb firstRoom first && leb restRoom rest) (leb partiesRoom parties) e in
+      let hours = both-pass (leb firstRoom first) (leb restRoom rest) (both .0) in
+      record { first-room = leb-true firstRoom first (hours .0); rest-room = leb-true restRoom rest (hours .1); parties-room = leb-true partiesRoom parties (both .1) }
+
+  all-room : Roomy first rest parties → rooms first rest parties ≡ true
+  unfolding rooms
+  all-room r =
+      rw (le-leb firstRoom first (r .first-room), le-leb restRoom rest (r .rest-room), le-leb partiesRoom parties (r .parties-room)) refl
+
+module _ (file : List ℕ) (s : Sections) (ok : Accepted file s) (no-refusal : monthVerdict (monthOf file) ≡ R.accepted) where
+  abbrev m : MonthFile
+  m = monthOf file
+
+  file-accepted : fileVerdict file ≡ R.accepted
+  unfolding fileVerdict verdictOn
+  file-accepted = ap verdictOn (read-as file s ok) ∙ no-refusal
+
+  report-verdict : (a b c : ℕ) → reportVerdict file a b c ≡ R.unless (rooms a b c) R.wrongLength 0
+  unfolding reportVerdict R.andThen
+  report-verdict a b c = ap (λ (v : R.Verdict). R.andThen v (R.unless (rooms a b c) R.wrongLength 0)) file-accepted
+
+  module _ (first rest parties : List ℕ) where
+    pub too-short : rooms (length first) (length rest) (length parties) ≡ false → Promised file first rest parties (S.Refused WrongLength 0) first rest parties
+    unfolding R.answer R.afterwards R.unless
+    too-short short =
+        let v : reportVerdict file (length first) (length rest) (length parties) ≡ R.refused R.wrongLength 0 = report-verdict (length first) (length rest) (length parties) ∙ ap (λ (t : Bool). R.unless t R.wrongLength 0) short in
+        record { answer = ap (λ (w : R.Verdict). R.answer w (lengthsOf m)) (sym v); first-hours = refl; other-hours = refl; all-parties = refl }
+
+    pub reported : Roomy (length first) (length rest) (length parties) → {first′ rest′ parties′ : List ℕ} {a b c : ℕ} → LinePut (firstPart m) first 0 firstRoom first′ a → LinePut (restPart m) rest 0 restRoom rest′ b → LinePut (partiesPart m) parties 0 partiesRoom parties′ c → Promised file first rest parties (S.Lines a b c) first′ rest′ parties′
+    unfolding R.answer R.afterwards R.unless atStart lengthsOf
+    reported room {first′} {rest′} {parties′} {a} {b} {c} x y z =
+        let v : reportVerdict file (length first) (length rest) (length parties) ≡ R.accepted = report-verdict (length first) (length rest) (length parties) ∙ ap (λ (t : Bool). R.unless t R.wrongLength 0) (all-room (length first) (length rest) (length parties) room) in
+        let of-a : a ≡ length (firstPart m) = omega (arith, x .put .ends) in
+        let of-b : b ≡ length (restPart m) = omega (arith, y .put .ends) in
+        let of-c : c ≡ length (partiesPart m) = omega (arith, z .put .ends) in
+        let lengths : record { first = a; rest = b; parties = c } ≡ lengthsOf m = rw (of-a, of-b, of-c) refl in
+        record { answer = ap R.given lengths ∙ ap (λ (w : R.Verdict). R.answer w (lengthsOf m)) (sym v); first-hours = put-at-start (x .put) (omega (arith, x .within, room .first-room)); other-hours = put-at-start (y .put) (omega (arith, y .within, room .rest-room)); all-parties = put-at-start (z .put) (omega (arith, z .within, room .parties-room)) }
+
+-- a refused file: nothing is written
+pub refused-file : (file : List ℕ) (x : Refusal) (place : ℕ) (first rest parties : List ℕ) → fileVerdict file ≡ R.refused (named x) place → Promised file first rest parties (S.Refused x place) first rest parties
+unfolding R.answer R.afterwards reportVerdict R.andThen
+refused-file file x place first rest parties e =
+    let v : reportVerdict file (length first) (length rest) (length parties) ≡ R.refused (named x) place = ap (λ (w : R.Verdict). R.andThen w (R.unless (rooms (length first) (length rest) (length parties)) R.wrongLength 0)) e in
+    record { answer = ap (λ (w : R.Verdict). R.answer w (lengthsOf (monthOf file))) (sym v); first-hours = refl; other-hours = refl; all-parties = refl }
+
+-- THE REPORT OF A FILE is its parts
+pub report-text : (file : List ℕ) → fileVerdict file ≡ R.accepted → hoursReport file ≡ firstPart (monthOf file) ++ restPart (monthOf file) ++ partiesPart (monthOf file)
+unfolding fileVerdict verdictOn hoursReport answeredReport judgedReport
+report-text file e = go (readMonth file) refl e
+  where
+    go : (a : R.Answer MonthFile) → readMonth file ≡ a → verdictOn a ≡ R.accepted → answeredReport a ≡ firstPart (monthOf file) ++ restPart (monthOf file) ++ partiesPart (monthOf file)
+    go (R.given n) is f = ap (judgedReport n) f ∙ sym (parts-make-the-report n) ∙ ap (λ (k : MonthFile). firstPart k ++ restPart k ++ partiesPart k) (sym (month-of file is))
+    go (R.refusal x q) is f = cc
+
+-- or its refusal line
+pub refusal-text : (file : List ℕ) {r : R.Refusal} {place : ℕ} → fileVerdict file ≡ R.refused r place → hoursReport file ≡ refusalLine r place
+unfolding fileVerdict verdictOn hoursReport answeredReport judgedReport
+refusal-text file {r} {place} e = go (readMonth file) e
+  where
+    go : (a : R.Answer MonthFile) → verdictOn a ≡ R.refused r place → answeredReport a ≡ refusalLine r place
+    go (R.given m) f = ap (judgedReport m) f
+    go (R.refusal x q) f = let same : x ≡ r = cc in let at : q ≡ place = cc in ap₂ refusalLine same at

@@ -1,0 +1,59 @@
+-- `report_text::hour_lines` meets its contract: the lines of the hours passed stand one after the other. Assumes nothing.
+use Prim.Native.Nat.{_-_}
+use native.Mathlib.Nat.{le-refl}
+use native.Mathlib.Omega.{arith}
+use Rattle.report_text.proofs.HourLines.{few}
+use Rattle.report_text.specs.Lines.{lineFrom}
+use Rattle.report_lines.specs.Rooms.{hourRoom}
+use Rattle.rules.specs.Month.{monthOf}
+use Rattle.text.proofs.Puts.{put-length}
+use Rattle.text.proofs.Runs.{Going, go-start, go-room, go-next, go-end}
+use borrow.Author.Needs.{needs}
+use Rattle.report_text.proofs.hour_lines.Statement.{statement}
+use Rattle.report_text.proofs.hour_lines.Tie as tie
+
+abbrev Inv-loop : tie.InvT-loop
+Inv-loop file s fixed-wh applied-wh curve distributed-wh periodised-wh start hours out₀ place end₀ k₀ out end k = Going (lineFrom (monthOf file) start) hours hourRoom out₀ place out end k
+
+abbrev μ-loop : tie.MeasureT-loop
+μ-loop file s fixed-wh applied-wh curve distributed-wh periodised-wh start hours out₀ place end₀ k₀ out end k = hours - k
+
+loop-holds : tie.Need-loop-holds Inv-loop μ-loop
+loop-holds c = go-start _ _ _ _ _
+
+add-hour-line-at : tie.Need-add-hour-line-at Inv-loop μ-loop
+add-hour-line-at c = record { fits = omega (arith, few (c .before .before .before .before .before .before .before .before .pre .0), c .before .before .before .before .before .before .before .before .pre .1 .0 .inside) }
+
+hour-line-at-requires : tie.Need-hour-line-at-requires Inv-loop μ-loop
+hour-line-at-requires c κs = (c .before .before .before .before .before .before .before .before .before .pre .0, (record { inside = omega (arith, c .before .before .before .before .before .before .before .before .before .pre .1 .0 .inside) }, go-room (c .before .before .loop .inv) (omega arith) _ (le-refl _) (c .before .before .before .before .before .before .before .before .before .pre .1 .1)))
+
+add-k : tie.Need-add-k Inv-loop μ-loop
+add-k c = search needs
+
+loop-less : tie.Need-loop-less Inv-loop μ-loop
+loop-less c = search needs
+
+loop-again : tie.Need-loop-again Inv-loop μ-loop
+unfolding lineFrom
+loop-again c = go-next (c .before .before .before .before .before .loop .inv) (omega arith) (c .before .before .hour-line-at .ensures)
+
+same-length : tie.Need-same-length Inv-loop μ-loop
+same-length c = put-length (c .before .loop .inv .put)
+
+returns : tie.Need-returns Inv-loop μ-loop
+returns c = go-end (c .before .loop .inv) (omega arith) _ (le-refl _)
+
+pub hour-lines-spec : {M : Type 1} → statement M
+hour-lines-spec =
+    tie.close
+    (tie.spec
+    Inv-loop
+    μ-loop
+    loop-holds
+    add-hour-line-at
+    hour-line-at-requires
+    add-k
+    loop-less
+    loop-again
+    same-length
+    returns)

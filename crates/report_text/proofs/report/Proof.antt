@@ -1,0 +1,47 @@
+-- `report_text::report` meets its contract: refused in the reading, or what the file that was read comes to. Assumes nothing.
+use Rattle.month_sums.proofs.Writing.{not-read, is-read}
+use Rattle.report_text.proofs.Reports.{refused-file}
+use borrow.Author.Needs.{needs}
+use Rattle.report_text.proofs.report.Statement.{statement}
+use Rattle.report_text.proofs.report.Tie as tie
+
+read-requires : tie.Need-read-requires
+read-requires c κs = search needs
+
+enum-known-read : tie.Need-enum-known-read
+enum-known-read c = search needs
+
+enum-known-read-2 : tie.Need-enum-known-read-2
+enum-known-read-2 c = search needs
+
+report-read-requires : tie.Need-report-read-requires
+report-read-requires c κs = is-read _ (c .before .before .before .before .before .before .read .ensures) (c .before .before .before .before .read3 .given .1)
+
+returns : tie.Need-returns
+returns c = refused-file _ _ _ _ _ _ (not-read _ (c .before .before .before .read .ensures) (c .before .read2 .given .1))
+
+same-length : tie.Need-same-length
+same-length c = search needs
+
+same-length-2 : tie.Need-same-length-2
+same-length-2 c = search needs
+
+same-length-3 : tie.Need-same-length-3
+same-length-3 c = search needs
+
+returns-2 : tie.Need-returns-2
+returns-2 c = search needs
+
+pub report-spec : {M : Type 1} → statement M
+report-spec =
+    tie.close
+    (tie.spec
+    read-requires
+    enum-known-read
+    enum-known-read-2
+    report-read-requires
+    returns
+    same-length
+    same-length-2
+    same-length-3
+    returns-2)
