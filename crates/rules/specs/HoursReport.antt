@@ -15,7 +15,8 @@ use Rattle.rules.specs.Refusals.{Verdict, accepted, refused, Answer, giv
 use Rattle.rules.specs.Statement.{decimal, signedDecimal, newline, refusalLine, headingLine, joined}
 use Rattle.rules.specs.Words.{sum, sumℤ, figures, ascii}
 
--- "Which hours were measured?": a status in words. A month with a missing hour is refused, so there are two.
+-- "Which hours were measured?": a status in words. A month with a missing hour is refused (7) and has no report, so there are two words: of status 0 nothing
+-- is asked here (law `every-hour-has-its-figure`), and what is written for it means nothing.
 unfoldable pub statusWord : ℕ → List ℕ
 statusWord status = cond (eqb status estimated) (ascii "estimated") (ascii "measured")
 
