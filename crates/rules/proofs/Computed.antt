@@ -19,7 +19,7 @@ use Rattle.rules.specs.Month.{estimatedHours, hourVerdict, curveVerdict,
 use Rattle.rules.specs.Statement.{digitsIn, decimal, signedDecimal, digitsOfWidth, newline, refusalLine, headingText, headingLine, columnsLine, partyLine, totalLine, statementLines}
 use Rattle.rules.specs.Statement.{judgedStatement, answeredStatement, statement}
 use Rattle.rules.specs.Demands.{exactShare}
-use Rattle.rules.specs.HoursReport.{statusWord, statusesText, seriesText, partsText, hourText, allDistributed, hourLine, distanceAfter, distanceAt, smaller, larger, smallest, largest}
+use Rattle.rules.specs.HoursReport.{statusWord, statusesText, seriesText, partsText, allDistributed, hourLine, distanceAfter, distanceAt, smaller, larger, smallest, largest}
 use Rattle.rules.specs.HoursReport.{smallestDistance, largestDistance, fraction, distancesText, distancesLine, reportLines, judgedReport, answeredReport, hoursReport}
 
 unfoldable pub words : Unit {0}
@@ -115,7 +115,7 @@ unfolding texts-1 texts-2
 texts = tt
 
 unfoldable pub reports-1 : Unit {0}
-unfolding statusWord statusesText seriesText partsText hourText allDistributed hourLine distanceAfter distanceAt smaller larger smallest largest
+unfolding statusWord statusesText seriesText partsText allDistributed hourLine distanceAfter distanceAt smaller larger smallest largest
 reports-1 = tt
 
 unfoldable pub reports-2 : Unit {0}

@@ -15,7 +15,9 @@ use Rattle.rules.specs.Demands.{Demand3}
 use Rattle.rules.specs.Distributed.{distributedFigure, runningAfter}
 use Rattle.rules.specs.Flows.{Flows, figure, noFigure, residual, judged, judgedBy, verdictOf, residualWh, appliedSeries, W}
 use Rattle.rules.specs.Limits.{mostHours, greatestW, greatestResidual, greatestCurveNumber, greatestPeriodised, greatestPrice}
-use Rattle.rules.specs.Month.{flowsAt, shareOf, monthW, appliedFlows, appliedWh, priceAt, periodised, allPeriodised, loss, distributed, difference, amount, monthDifference, monthAmount, monthDistributed, hourVerdict, curveVerdict, periodisedVerdict, monthChecks, monthVerdict, curve}
+use Rattle.rules.specs.Month.{flowsAt, shareOf, monthW, appliedFlows, appliedWh, priceAt, periodised, allPeriodised, loss, distributed}
+use Rattle.rules.specs.Month.{difference, amount, monthDifference, monthAmount, monthDistributed, hourVerdict, curveVerdict}
+use Rattle.rules.specs.Month.{periodisedVerdict, monthChecks, monthVerdict, curve}
 use Rattle.rules.specs.MonthFile.{MonthFile, H, P}
 use Rattle.rules.specs.Reconciliation.{gridLoss, lossOf, differenceOf, amountMillionths}
 use Rattle.rules.specs.Refusals.{wOutOfRange, residualTooLarge, accepted, unless, inTurn}
@@ -44,7 +46,8 @@ has-figure zero r t e = absurd (refused-not-accepted e)
 has-figure (suc status) (negsuc n) t e = absurd (refused-not-accepted e)
 has-figure (suc status) (pos n) t e = go (leb n greatestResidual) refl e
   where
-    go : (b : Bool) → leb n greatestResidual ≡ b → verdictOf (cond b (figure n) (noFigure residualTooLarge)) t ≡ accepted → (judgedBy (suc status) (pos n) ≡ figure n) × (1 ≤ suc status) × (pos n ≡ pos n) × (n ≤ greatestResidual)
+    go : (b : Bool) → leb n greatestResidual ≡ b → verdictOf (cond b (figure n) (noFigure residualTooLarge)) t ≡ accepted
+        → (judgedBy (suc status) (pos n) ≡ figure n) × (1 ≤ suc status) × (pos n ≡ pos n) × (n ≤ greatestResidual)
     go true b e = (ap (λ t. cond t (figure n) (noFigure residualTooLarge)) b, omega arith, refl, leb-true n greatestResidual b)
     go false b e = absurd (refused-not-accepted e)
 
@@ -170,7 +173,8 @@ module _ (m : MonthFile) (j : Judged m) where
         ∙ minus-add (periodised m t i) 0 before-hour after-hour
         ∙ ap (λ (x : ℕ). pos (periodised m t i + before-hour) -ℤ pos x) (zero-add after-hour)
 
-    difference-by : (is-carrier : Bool) → natAbs (pos (periodised m t i) +ℤ cond is-carrier (pos (appliedWh m t) -ℤ pos (allPeriodised m t)) (pos 0) -ℤ (pos after-hour -ℤ pos before-hour)) ≤ greatestDifference
+    difference-by : (is-carrier : Bool)
+        → natAbs (pos (periodised m t i) +ℤ cond is-carrier (pos (appliedWh m t) -ℤ pos (allPeriodised m t)) (pos 0) -ℤ (pos after-hour -ℤ pos before-hour)) ≤ greatestDifference
     difference-by true =
         rw carriers
         (le-of-suc-le-suc

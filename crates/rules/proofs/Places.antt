@@ -37,7 +37,8 @@ Row {A} file offset mk l = (k : ℕ) → k < length l → (d : A) → Standing f
 row-none : {A : Type 0} (file : List ℕ) (offset : ℕ → ℕ) (mk : ℕ → A → Record) (l : List A) → length l ≡ 0 → Row file offset mk l
 row-none file offset mk l e k b d = absurd (omega arith)
 
-row-more : {A : Type 0} (file : List ℕ) (offset : ℕ → ℕ) (mk : ℕ → A → Record) (l : List A) (x : A) → Row file offset mk l → Standing file (offset (length l)) (mk (length l) x) → Row file offset mk (l ++ (x ∷ []))
+row-more : {A : Type 0} (file : List ℕ) (offset : ℕ → ℕ) (mk : ℕ → A → Record) (l : List A) (x : A) → Row file offset mk l
+    → Standing file (offset (length l)) (mk (length l) x) → Row file offset mk (l ++ (x ∷ []))
 row-more {A} file offset mk l x row new k b d =
     ⊎-elim
     (λ (e : k ≡ length l).
@@ -45,6 +46,13 @@ row-more {A} file offset mk l x row new k b d =
     (rw (getD-at l x [] d (length l) refl) new))
     (λ (c : k < length l). rw (List·getD-append l (x ∷ []) d k c) (row k c d))
     (eq-or-lt-of-le (omega (arith, length-append l (x ∷ []))))
+
+-- a record whose hour field is the number that is due, and that stands where that number stands
+at-its-place : {A : Type 0} {file : List ℕ} {offset place hour : ℕ} → offset ≡ place → (mk : ℕ → A → Record) {k : ℕ} → eqb hour k ≡ true → {x : A}
+    → Standing file offset (mk hour x)
+    → Standing file place (mk k x)
+at-its-place {A} {file} {offset} {place} {hour} there mk {k} due {x} here =
+    subst (λ (o : ℕ). Standing file o (mk k x)) there (subst (λ (t : ℕ). Standing file offset (mk t x)) (eqb-true hour k due) here)
 
 -- the offsets, in a file of so many parties, hours and refixed hours
 abbrev pub partyOffset : ℕ → ℕ
@@ -174,7 +182,7 @@ module _ (file : List ℕ) (m : MonthFile) (s : Sound m) (offset : ℕ) (p : Pla
         so-far = λ b. omega (arith, one-longer (m .fixed) x, p .so-far b);
         head = p .head;
         parties = p .parties;
-        fixed = row-more file (fixedOffset (P m)) fixedHour (m .fixed) x (p .fixed) (subst (λ (o : ℕ). Standing file o (fixedHour (length (m .fixed)) x)) there (subst (λ (t : ℕ). Standing file offset (fixedHour t x)) (eqb-true hour (length (m .fixed)) (outer .1)) here));
+        fixed = row-more file (fixedOffset (P m)) fixedHour (m .fixed) x (p .fixed) (at-its-place there fixedHour (outer .1) here);
         refixed = p .refixed;
         prices = p .prices;
         readings = p .readings;
@@ -198,7 +206,7 @@ module _ (file : List ℕ) (m : MonthFile) (s : Sound m) (offset : ℕ) (p : Pla
         head = p .head;
         parties = p .parties;
         fixed = p .fixed;
-        refixed = row-more file (refixedOffset (P m) (H m)) refixedHour (m .refixed) x (p .refixed) (subst (λ (o : ℕ). Standing file o (refixedHour (length (m .refixed)) x)) there (subst (λ (t : ℕ). Standing file offset (refixedHour t x)) (eqb-true hour (length (m .refixed)) (outer .1)) here));
+        refixed = row-more file (refixedOffset (P m) (H m)) refixedHour (m .refixed) x (p .refixed) (at-its-place there refixedHour (outer .1) here);
         prices = row-none file (priceOffset (P m) (H m) (length (m .refixed ++ (x ∷ [])))) price (m .prices) no-prices;
         readings = row-none file (readingOffset (P m) (H m) (length (m .refixed ++ (x ∷ [])))) asReading (m .readings) no-more;
       }
@@ -221,7 +229,7 @@ module _ (file : List ℕ) (m : MonthFile) (s : Sound m) (offset : ℕ) (p : Pla
         parties = p .parties;
         fixed = p .fixed;
         refixed = p .refixed;
-        prices = row-more file (priceOffset (P m) (H m) (length (m .refixed))) price (m .prices) x (p .prices) (subst (λ (o : ℕ). Standing file o (price (length (m .prices)) x)) there (subst (λ (t : ℕ). Standing file offset (price t x)) (eqb-true hour (length (m .prices)) (outer .1)) here));
+        prices = row-more file (priceOffset (P m) (H m) (length (m .refixed))) price (m .prices) x (p .prices) (at-its-place there price (outer .1) here);
         readings = p .readings;
       }
 
@@ -264,7 +272,8 @@ place file m s offset p n (refixedHour hour x) e d c here = place-refixed file m
 place file m s offset p n (end count) e d c here = absurd (let z : _≡_ {A = ℕ} 0 1 = cc in omega arith)
 
 -- where a record stands that passed 2 and 1
-pub here-stands : (file : List ℕ) (offset kind : ℕ) (body : List ℕ) → drop offset file ≡ kind ∷ body → known kind ≡ true → 1 + bodyLength kind ≤ length (kind ∷ body) → Standing file offset (recordAt (kind ∷ body))
+pub here-stands : (file : List ℕ) (offset kind : ℕ) (body : List ℕ) → drop offset file ≡ kind ∷ body → known kind ≡ true
+    → 1 + bodyLength kind ≤ length (kind ∷ body) → Standing file offset (recordAt (kind ∷ body))
 unfolding kindAt at recordAt
 here-stands file offset kind body e k b =
     let size : length (drop offset file) ≡ length file - offset = length-drop offset file in
@@ -272,7 +281,8 @@ here-stands file offset kind body e k b =
     record { is = ap recordAt e; known-kind = rw e k; fits = omega (arith, length-of-record kind (cutInto (fieldWidths kind) body) k) }
 
 -- the bytes after it
-pub bytes-after : (file : List ℕ) (offset kind : ℕ) (body : List ℕ) → drop offset file ≡ kind ∷ body → known kind ≡ true → drop (bodyLength kind) body ≡ drop (offset + (1 + lengthOf (recordAt (kind ∷ body)))) file
+pub bytes-after : (file : List ℕ) (offset kind : ℕ) (body : List ℕ) → drop offset file ≡ kind ∷ body → known kind ≡ true
+    → drop (bodyLength kind) body ≡ drop (offset + (1 + lengthOf (recordAt (kind ∷ body)))) file
 unfolding kindAt at recordAt
 bytes-after file offset kind body e k =
     let longer : 1 + lengthOf (recordAt (kind ∷ body)) ≡ suc (bodyLength kind) = omega (arith, length-of-record kind (cutInto (fieldWidths kind) body) k) in
@@ -286,7 +296,8 @@ end-or-not r = go (isEnd r) refl
     go true e = inl e
     go false e = inr e
 
-read-on-placed : (file : List ℕ) (more : ℕ) (bytes : List ℕ) (n : ℕ) (m : MonthFile) (offset : ℕ) → drop offset file ≡ bytes → Sound m → Placed file m offset → {m′ : MonthFile} → readOn more bytes n m ≡ given m′ → (o : ℕ) × Placed file m′ o
+read-on-placed : (file : List ℕ) (more : ℕ) (bytes : List ℕ) (n : ℕ) (m : MonthFile) (offset : ℕ) → drop offset file ≡ bytes → Sound m
+    → Placed file m offset → {m′ : MonthFile} → readOn more bytes n m ≡ given m′ → (o : ℕ) × Placed file m′ o
 unfolding readOn recordChecks kindAt at
 read-on-placed file zero bytes n m offset here s p e = absurd (given-not-refusal e)
 read-on-placed file (suc more) [] n m offset here s p e = absurd (given-not-refusal e)

@@ -11,10 +11,12 @@ use lib.ListN.{length, getD}
 use lib.Signed.{leZ}
 use Rattle.rules.specs.Distributed.{distributedFigure}
 use Rattle.rules.specs.Flows.{Flows, silentIsZero, judged, verdictOf, residualWh, W, curveNumber}
-use Rattle.rules.specs.Limits.{estimated, greatestFlow, mostHours, mostParties, greatestShare, greatestW, greatestResidual, greatestCurveNumber, mostWeights, greatestEnergy, greatestPeriodised, greatestPrice, greatestDistributed}
+use Rattle.rules.specs.Limits.{estimated, greatestFlow, mostHours, mostParties, greatestShare, greatestW, greatestResidual}
+use Rattle.rules.specs.Limits.{greatestCurveNumber, mostWeights, greatestEnergy, greatestPeriodised, greatestPrice, greatestDistributed}
 use Rattle.rules.specs.Periodised.{periodisedFigure}
 use Rattle.rules.specs.Reconciliation.{gridLoss, differenceOf, amountMillionths}
-use Rattle.rules.specs.Refusals.{Refusal, outOfRange, wOutOfRange, residualTooLarge, curveTooLarge, spanFault, energyTooLarge, nothingToFollow, periodisedTooLarge, wrongLength, Verdict, unless, inTurn}
+use Rattle.rules.specs.Refusals.{Refusal, outOfRange, wOutOfRange, residualTooLarge, curveTooLarge, spanFault, energyTooLarge}
+use Rattle.rules.specs.Refusals.{nothingToFollow, periodisedTooLarge, wrongLength, Verdict, unless, inTurn}
 use Rattle.rules.specs.Words.{sum, sumℤ, figures, at, within, withinℤ, atMost}
 
 unfoldable pub atℤ : List ℤ → ℕ → ℤ

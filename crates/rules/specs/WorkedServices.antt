@@ -6,8 +6,11 @@ use Prim.Native.Nat.{ℕ}
 use lib.IntN.{ℤ, pos, negsuc}
 use lib.ListN.{replicate}
 use Rattle.rules.specs.Record.{fixedHour, price, end, bodyLength, recordBytes, readAlone, writeVerdict, written}
-use Rattle.rules.specs.Refusals.{fileFault, unknownKind, outOfRange, glnFault, wOutOfRange, missingHour, residualNegative, residualTooLarge, curveTooLarge, spanFault, energyTooLarge, periodisedTooLarge, wrongLength, accepted, refused, given, refusal, first}
-use Rattle.rules.specs.Services.{residualChecks, residualFigures, curveChecks, distributionChecks, periodisationChecks, reconciliationChecks, reconciliationLoss, reconciliationDifferences, reconciliationAmounts}
+use Rattle.rules.specs.Refusals.{fileFault, unknownKind, outOfRange, glnFault, wOutOfRange, missingHour, residualNegative, residualTooLarge}
+use Rattle.rules.specs.Refusals.{curveTooLarge, spanFault, energyTooLarge, periodisedTooLarge, wrongLength, accepted, refused, given}
+use Rattle.rules.specs.Refusals.{refusal, first}
+use Rattle.rules.specs.Services.{residualChecks, residualFigures, curveChecks, distributionChecks, periodisationChecks}
+use Rattle.rules.specs.Services.{reconciliationChecks, reconciliationLoss, reconciliationDifferences, reconciliationAmounts}
 use Rattle.rules.specs.WorkedMonths.{supply, partyOf, readingOf}
 use Rattle.rules.specs.Words.{figures}
 
