@@ -1,3 +1,2 @@
-pub mod Here
-pub mod Going
-pub mod Unique
+pub mod Held
+pub mod Part

@@ -17,9 +17,6 @@ ghost use Rattle.file_sections.specs.Fields.{silentFlows, flowsIn, share
 ghost use Rattle.file_sections.specs.Walk.{sectionsIn, told, readAnswer};
 ghost use Rattle.rules.specs.MonthFile.{readMonth};
 
-// "At most 65,536 bytes."
-const LONGEST_FILE: usize = 65536;
-
 // An accepted file: its heading, how many refixed hours and readings it has, and where each section starts.
 pub struct Sections {
     pub heading: Heading,
@@ -69,21 +66,20 @@ pub fn read(file: &[u8]) -> MonthRead
     if file.len() < 1 {
         return MonthRead::Refused(Refusal::FileFault, 0);
     }
-    if LONGEST_FILE < file.len() {
+    if limits::LONGEST_FILE < file.len() {
         return MonthRead::Refused(Refusal::FileFault, 0);
     }
     let mut w = file_step::start();
     let mut at = 0;
     while at < file.len() {
-        let rest = &file[at..];
-        let step = w.step(rest);
+        let step = file_reader::next_at(file, at, w);
         match step {
             Step::Next(next, size) => {
                 w = next;
                 at += size;
             }
             Step::End => {
-                if rest.len() == 5 {
+                if file.len() - at == 5 {
                     return MonthRead::Accepted(laid_out(w));
                 }
                 return MonthRead::Refused(Refusal::FileFault, w.records + 1);

@@ -2,12 +2,11 @@
 use mathlib.Core.List.{List}
 use mathlib.Core.Path.{_≡_, sym, _∙_, ap}
 use Rattle.answer.proofs.Said.{said-once}
-use Rattle.file_reader.proofs.Unique.{record-here-once, new-once, next-once, moved-once, first-once}
 use Rattle.report_text.proofs.Unique.{report-unique}
 use Rattle.month_demands.proofs.Unique.{settle-unique}
 use Rattle.file_sections.proofs.Unique.{read-unique}
 use Rattle.month_run.proofs.MonthSums.{hours-unique}
-use Rattle.no_second.specs.NoSecond.{OneFits, Answered, Numbered, Services, ServicesForC, Records, Walks, WholeFiles, Answers, NoSecondResult}
+use Rattle.no_second.specs.NoSecond.{OneFits, Answered, Numbered, Services, ServicesForC, Records, WholeFiles, Answers, NoSecondResult}
 use Rattle.reconcile_service.proofs.Unique.{reconciliation-once}
 use Rattle.record.proofs.Unique.{fault-once, read-once}
 use Rattle.record_write.proofs.Unique.{write-once}
@@ -50,11 +49,6 @@ unfolding OneFits
 records =
     record { gln-check = λ part. one-value _; gln-part-at = λ file at. one-value _; body-length = λ kind. one-value _; gln-in = λ part r. one-value _; fault = λ r gln hours parties place a b p q. fault-once hours parties place r gln a b p q; read-alone = λ part r s p q. read-once _ r s p q; write = λ r gln lent v w p q i. (write-once (v .0) (w .0) (p .0) (q .0) i, (p .1 ∙ sym (q .1)) i); write-plain = λ kind numbers gln lent v w p q i. (write-once (v .0) (w .0) (p .0) (q .0) i, (p .1 ∙ sym (q .1)) i) }
 
-walks : Walks
-unfolding OneFits
-walks =
-    record { record-here = record-here-once; gln-after-kind = λ file at. one-value _; after = λ file at. one-value _; new = new-once; next = next-once; gln-here = λ r. one-value _; moved = moved-once; first-record = first-once }
-
 whole-files : WholeFiles
 unfolding OneFits
 whole-files =
@@ -65,4 +59,4 @@ unfolding OneFits
 answers = record { number = λ r. one-value _; each-at-most = λ values most otherwise a b p q. said-once a b (p ∙ sym q) }
 
 pub no-second-result : NoSecondResult
-no-second-result = record { services = services; services-for-C = services-for-C; records = records; walks = walks; whole-files = whole-files; answers = answers }
+no-second-result = record { services = services; services-for-C = services-for-C; records = records; whole-files = whole-files; answers = answers }

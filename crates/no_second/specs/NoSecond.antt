@@ -5,14 +5,11 @@ use mathlib.Core.Bool.{Bool}
 use mathlib.Core.List.{List}
 use mathlib.Core.Path.{_≡_}
 use Prim.Native.Nat.{ℕ}
-use denote.Ref.{RefT, now}
 use lib.IntN.{ℤ}
-use lib.ListN.{length, drop}
+use lib.ListN.{length}
 use Rattle.answer.specs.Said.{named, said}
 use Rattle.answer.specs.declared.Answer.{Answer}
 use Rattle.answer.specs.declared.Refusal.{Refusal}
-use Rattle.file_reader.specs.Walk.{placeAfter}
-use Rattle.file_reader.specs.declared.Reader.{Reader}
 use Rattle.gln.specs.Gln.{glnAnswer, glnPart}
 use Rattle.gln.specs.declared.Gln.{Gln}
 use Rattle.report_text.specs.Reporting as Report
@@ -133,20 +130,6 @@ pub record Records : Type 0 where
       (wrote (w .0) ≡ answer (plainVerdict kind numbers gln (length lent)) (length (recordBytes (recordOf gln (plainRecord kind numbers)))))
       × (w .1 ≡ afterwards (plainVerdict kind numbers gln (length lent)) (written (recordOf gln (plainRecord kind numbers)) lent) lent))
 
--- A READER GOES THROUGH THE FILE RECORD BY RECORD
-pub record Walks : Type 0 where
-  pub record-here :
-      (file : List ℕ) (at : ℕ) → OneFits (λ (r : Read). told (glnBytes (drop at file)) r ≡ readAlone (drop at file))
-  pub gln-after-kind : (file : List ℕ) (at : ℕ) → OneFits (λ (r : List ℕ). r ≡ glnBytes (drop at file))
-  pub after : (file : List ℕ) (at : ℕ) → OneFits (λ (r : ℕ). r ≡ placeAfter file at)
-  pub new : (file : RefT (List ℕ)) → OneFits (λ (r : Reader). (r .file ≡ file) × (r .at ≡ 0))
-  pub next :
-      (r : Reader) → OneFits (λ (x : Read). told (glnBytes (drop (r .at) (now (r .file)))) x ≡ readAlone (drop (r .at) (now (r .file))))
-  -- of the part that comes back, the bytes
-  pub gln-here : (r : Reader) → OneFits (λ (bytes : List ℕ). bytes ≡ glnBytes (drop (r .at) (now (r .file))))
-  pub moved : (r : Reader) → OneFits (λ (q : Reader). (q .file ≡ r .file) × (q .at ≡ placeAfter (now (r .file)) (r .at)))
-  pub first-record : (file : List ℕ) → OneFits (λ (r : Read). told (glnBytes file) r ≡ readAlone file)
-
 -- A WHOLE FILE: its reading, its settlement, the hours of a run, its two texts
 pub record WholeFiles : Type 0 where
   pub month-file-read : (file : List ℕ) → OneFits (λ (r : MonthRead). File.told r ≡ File.readAnswer (readMonth file))
@@ -176,6 +159,5 @@ pub record NoSecondResult : Type 0 where
   pub services : Services
   pub services-for-C : ServicesForC
   pub records : Records
-  pub walks : Walks
   pub whole-files : WholeFiles
   pub answers : Answers

@@ -1,12 +1,17 @@
 -- `file_sections::read` meets its contract: what is left of the file says what the whole says (`Walking`). Assumes nothing.
-use Prim.Native.Nat.{_-_}
-use Rattle.file_sections.proofs.Walking as W
-use Rattle.file_sections.proofs.Walking.{Walking}
-use Rattle.file_sections.specs.Walk.{readAnswer}
+use mathlib.Core.List.{List}
+use mathlib.Core.Path.{_≡_, ap}
+use Prim.Native.Nat.{ℕ, _+_, _-_, _≤_}
+use native.Mathlib.Omega.{arith}
 use borrow.Author.Needs.{needs}
 use lib.ListN.{length}
-use mathlib.Core.Path.{ap}
-use native.Mathlib.Omega.{arith}
+use Rattle.rules.specs.Limits.{longestFile}
+use Rattle.file_step.specs.declared.Walk as F
+use Rattle.file_step.specs.declared.Step.{Step}
+use Rattle.file_step.specs.declared.Step.the-variants as S
+use Rattle.file_sections.specs.Walk.{readAnswer}
+use Rattle.file_sections.proofs.Walking as W
+use Rattle.file_sections.proofs.Walking.{Walking, Turn}
 use Rattle.file_sections.proofs.read.Statement.{statement}
 use Rattle.file_sections.proofs.read.Tie as tie
 
@@ -15,6 +20,33 @@ Inv-loop file w₀ at₀ w at = Walking file w at
 
 abbrev μ-loop : tie.MeasureT-loop
 μ-loop file w₀ at₀ w at = length file - at
+
+-- What is known in a turn: the file, where the walk stands, and that it is a turn.
+abbrev bytes : tie.At-loop Inv-loop μ-loop → List ℕ
+bytes c = c .before .before .before .before .before .args .file .now
+
+some-bytes : (c : tie.At-loop Inv-loop μ-loop) → 1 ≤ length (bytes c)
+some-bytes c = c .before .before .before .if1 .left
+
+short : (c : tie.At-loop Inv-loop μ-loop) → length (bytes c) ≤ longestFile
+short c = c .before .before .if2 .left
+
+turn : (c : tie.In-loop Inv-loop μ-loop) → Turn (bytes (c .before)) (c .before .loop .w) (c .before .loop .at)
+turn c = record { some = some-bytes (c .before); short = short (c .before); walking = c .before .loop .inv; more = omega arith }
+
+-- what the step answers, and what is then known of the file
+abbrev stepped : tie.After-next-at Inv-loop μ-loop → Step
+stepped c = c .next-at .result
+
+goes-on :
+    (c : tie.After-next-at Inv-loop μ-loop) {v : F.Walk} {size : ℕ} → stepped c ≡ S.Next v size
+    → Walking (bytes (c .before .before)) v (c .before .before .loop .at + size)
+goes-on c = W.goes-on _ _ _ (turn (c .before)) (stepped c) (c .next-at .ensures)
+
+moves :
+    (c : tie.After-next-at Inv-loop μ-loop) {v : F.Walk} {size : ℕ} → stepped c ≡ S.Next v size
+    → (1 ≤ size) × (c .before .before .loop .at + size ≤ length (bytes (c .before .before)))
+moves c = W.moves _ _ _ (turn (c .before)) (stepped c) (c .next-at .ensures)
 
 returns : tie.Need-returns Inv-loop μ-loop
 returns c = ap readAnswer (W.empty _ (c .if1 .taken))
@@ -28,53 +60,56 @@ start-requires c κs = search needs
 loop-holds : tie.Need-loop-holds Inv-loop μ-loop
 loop-holds c = rw (c .start .ensures) (W.walk-start _)
 
-sub-rest : tie.Need-sub-rest Inv-loop μ-loop
-sub-rest c = search needs
-
-part-rest-start : tie.Need-part-rest-start Inv-loop μ-loop
-part-rest-start c = search needs
-
-part-rest-end : tie.Need-part-rest-end Inv-loop μ-loop
-part-rest-end c = search needs
-
-step-requires : tie.Need-step-requires Inv-loop μ-loop
-step-requires c κs = W.asks _ (c .before .before .before .before .before .if1 .left) (c .before .before .before .before .if2 .left) _ _ (c .before .before .loop .inv) (omega arith)
+next-at-requires : tie.Need-next-at-requires Inv-loop μ-loop
+next-at-requires c κs = W.steppable _ _ _ (turn c)
 
 enum-known-step : tie.Need-enum-known-step Inv-loop μ-loop
 enum-known-step c = search needs
 
 add-at : tie.Need-add-at Inv-loop μ-loop
-add-at c = omega (arith, W.moves _ (c .before .before .before .before .before .before .before .before .before .if1 .left) (c .before .before .before .before .before .before .before .before .if2 .left) _ _ (c .before .before .before .before .before .before .loop .inv) (omega arith) _ (c .before .before .before .step .ensures) (c .before .step2 .given .1))
+add-at c = omega (arith, moves (c .before .before .before) (c .before .step .given .1))
 
 loop-less : tie.Need-loop-less Inv-loop μ-loop
-loop-less c = omega (arith, W.moves _ (c .before .before .before .before .before .before .before .before .before .if1 .left) (c .before .before .before .before .before .before .before .before .if2 .left) _ _ (c .before .before .before .before .before .before .loop .inv) (omega arith) _ (c .before .before .before .step .ensures) (c .before .step2 .given .1))
+loop-less c = omega (arith, moves (c .before .before .before) (c .before .step .given .1))
 
 loop-again : tie.Need-loop-again Inv-loop μ-loop
-loop-again c = W.goes-on _ (c .before .before .before .before .before .before .before .before .before .if1 .left) (c .before .before .before .before .before .before .before .before .if2 .left) _ _ (c .before .before .before .before .before .before .loop .inv) (omega arith) _ (c .before .before .before .step .ensures) (c .before .step2 .given .1)
+loop-again c = goes-on (c .before .before .before) (c .before .step .given .1)
 
 enum-told : tie.Need-enum-told Inv-loop μ-loop
 enum-told c = search needs
 
+sub-if3 : tie.Need-sub-if3 Inv-loop μ-loop
+sub-if3 c = search needs
+
 laid-out-requires : tie.Need-laid-out-requires Inv-loop μ-loop
-laid-out-requires c κs = W.few-now _ (c .before .before .before .before .before .before .before .before .before .if1 .left) (c .before .before .before .before .before .before .before .before .if2 .left) _ _ (c .before .before .before .before .before .before .loop .inv) (omega arith)
+laid-out-requires c κs = W.few _ _ _ (turn (c .before .before .before .before))
 
 returns-3 : tie.Need-returns-3 Inv-loop μ-loop
-returns-3 c = W.accepts _ (c .before .before .before .before .before .before .before .before .before .before .if1 .left) (c .before .before .before .before .before .before .before .before .before .if2 .left) _ _ (c .before .before .before .before .before .before .before .loop .inv) (omega arith) _ (c .before .before .before .before .step .ensures) (c .before .before .enum-told .given .1) (c .before .if3 .taken) (c .laid-out .ensures)
+returns-3 c =
+    let there = c .before .before in
+    W.accepts _ _ _ (turn (there .before .before .before)) _ (there .before .before .next-at .ensures) (there .enum-told .given .1)
+    (c .before .if3 .taken)
+    (c .laid-out .ensures)
 
-add-t18 : tie.Need-add-t18 Inv-loop μ-loop
-add-t18 c = omega (arith, W.few-now _ (c .before .before .before .before .before .before .before .before .before .before .if1 .left) (c .before .before .before .before .before .before .before .before .before .if2 .left) _ _ (c .before .before .before .before .before .before .before .loop .inv) (omega arith))
+add-t15 : tie.Need-add-t15 Inv-loop μ-loop
+add-t15 c = omega (arith, W.few _ _ _ (turn (c .before .before .before .before .before)))
 
 returns-4 : tie.Need-returns-4 Inv-loop μ-loop
-returns-4 c = W.goes-past _ (c .before .before .before .before .before .before .before .before .before .before .if1 .left) (c .before .before .before .before .before .before .before .before .before .if2 .left) _ _ (c .before .before .before .before .before .before .before .loop .inv) (omega arith) _ (c .before .before .before .before .step .ensures) (c .before .before .enum-told .given .1) (c .before .if3 .left)
+returns-4 c =
+    let there = c .before .before in
+    W.goes-past _ _ _ (turn (there .before .before .before)) _ (there .before .before .next-at .ensures) (there .enum-told .given .1)
+    (c .before .if3 .left)
 
 enum-known-step-2 : tie.Need-enum-known-step-2 Inv-loop μ-loop
 enum-known-step-2 c = search needs
 
 returns-5 : tie.Need-returns-5 Inv-loop μ-loop
-returns-5 c = W.refuses _ (c .before .before .before .before .before .before .before .before .before .if1 .left) (c .before .before .before .before .before .before .before .before .if2 .left) _ _ (c .before .before .before .before .before .before .loop .inv) (omega arith) _ (c .before .before .before .step .ensures) (c .before .step3 .given .1)
+returns-5 c =
+    let there = c .before .before .before in
+    W.refuses _ _ _ (turn (there .before)) _ (there .next-at .ensures) (c .before .step2 .given .1)
 
 returns-6 : tie.Need-returns-6 Inv-loop μ-loop
-returns-6 c = W.never-ends _ (c .before .before .before .before .if1 .left) (c .before .before .before .if2 .left) _ _ (c .before .loop .inv) (omega arith)
+returns-6 c = W.never-ends _ (some-bytes (c .before)) (short (c .before)) _ _ (c .before .loop .inv) (omega arith)
 
 pub read-spec : {M : Type 1} → statement M
 read-spec =
@@ -86,18 +121,16 @@ read-spec =
     returns-2
     start-requires
     loop-holds
-    sub-rest
-    part-rest-start
-    part-rest-end
-    step-requires
+    next-at-requires
     enum-known-step
     add-at
     loop-less
     loop-again
     enum-told
+    sub-if3
     laid-out-requires
     returns-3
-    add-t18
+    add-t15
     returns-4
     enum-known-step-2
     returns-5
