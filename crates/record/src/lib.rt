@@ -104,7 +104,7 @@ fn heading_in(part: &[u8]) -> Heading
     }
 }
 
-fn flows_in(part: &[u8]) -> Flows
+pub fn flows_in(part: &[u8]) -> Flows
     requires { ⌜ 36 ≤ length (now part) ⌝ }
     ensures { λ r. ⌜ flowsOf r ≡ flowsAt (now (part .entry)) ⌝ }
 {
@@ -117,7 +117,7 @@ fn flows_in(part: &[u8]) -> Flows
     }
 }
 
-fn reading_in(part: &[u8]) -> Reading
+pub fn reading_in(part: &[u8]) -> Reading
     requires { ⌜ 10 ≤ length (now part) ⌝ }
     ensures { λ r. ⌜ reading (readingOf r) ≡ recordAs readingKind (now (part .entry)) ⌝ }
 {
@@ -129,11 +129,18 @@ fn reading_in(part: &[u8]) -> Reading
     }
 }
 
-fn price_in(part: &[u8]) -> i64
+pub fn price_in(part: &[u8]) -> i64
     requires { ⌜ 7 ≤ length (now part) ⌝ }
     ensures { λ r. ⌜ r ≡ signed 4 (numberOnto 0 (take 4 (drop 3 (now (part .entry))))) ⌝ }
 {
     fields::signed(fields::number_at(part, 3, 4), TOP_4)
+}
+
+pub fn share_in(part: &[u8]) -> u64
+    requires { ⌜ 22 ≤ length (now part) ⌝ }
+    ensures { λ r. ⌜ r ≡ numberOnto 0 (take 8 (drop 14 (now (part .entry)))) ⌝ }
+{
+    fields::number_at(part, 14, 8)
 }
 
 // The record that stands whole at the start of a part; the bytes of a party's GLN stand after its kind.
