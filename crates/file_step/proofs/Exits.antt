@@ -20,7 +20,7 @@ use Rattle.record.specs.declared.Record.the-variants.{Heading, Party, FixedHour
 use Rattle.file_step.specs.declared.Walk.{Walk}
 use Rattle.file_step.specs.declared.Step.{Step}
 use Rattle.file_step.specs.declared.Step.the-variants as S
-use Rattle.file_step.specs.Walk.{dueIn, risesIn, Counted, Few, Stepped, Steppable, StepMoves, refusedBy, judgedIn}
+use Rattle.file_step.specs.Walk.{dueIn, risesIn, Counted, Few, Stepped, Steppable, StepMoves, judgedIn}
 use Rattle.file_step.proofs.Stepping as G
 use Rattle.record.proofs.BodyShort.{body-short}
 use Rattle.rules.specs.Record as R
@@ -52,66 +52,102 @@ module _ (w : Walk) (bytes : List ℕ) (size : ℕ) (body : size ≡ R.bodyLengt
       ended true = end-is-short count is
       ended false = tt
 
-module _ (w : Walk) (bytes : List ℕ) (asked : Steppable w bytes) (size : ℕ) (size-is : size ≡ R.bodyLength (getD bytes 0 0)) where
-  body : size ≡ R.bodyLength (R.kindAt bytes)
+-- What is known after each test of a step. The kind's body has so many bytes:
+pub record Sized (w : Walk) (bytes : List ℕ) (size : ℕ) : Type 0 where
+  pub asked : Steppable w bytes
+  pub body : size ≡ R.bodyLength (R.kindAt bytes)
+
+-- a record of a known kind stands whole;
+pub record Standing (w : Walk) (bytes : List ℕ) (size : ℕ) : Type 0 where
+  pub sized : Sized w bytes size
+  pub some : 1 ≤ R.bodyLength (R.kindAt bytes)
+  pub fits : size < length bytes
+
+-- it was decoded, and is due;
+pub record Due (w : Walk) (bytes : List ℕ) (size : ℕ) (r : Record) : Type 0 where
+  pub standing : Standing w bytes size
+  pub is : recordOf (glnBytes bytes) r ≡ R.recordAt bytes
+  pub due : dueIn w r ≡ true
+
+-- its GLN was tested, and its fields were judged.
+pub record Judged (w : Walk) (bytes : List ℕ) (size : ℕ) (r : Record) (g : Gln) (a : Answer) : Type 0 where
+  pub due : Due w bytes size r
+  pub gln : g ≡ glnIn (glnBytes bytes) r
+  pub says : said a ≡ faultOf (w .heading .hours) (w .heading .parties) r (glnIn (glnBytes bytes) r) (w .records)
+
+module _ {w : Walk} {bytes : List ℕ} {size : ℕ} where
+  pub sized : Steppable w bytes → size ≡ R.bodyLength (getD bytes 0 0) → Sized w bytes size
   unfolding R.kindAt at
-  body = size-is
+  sized asked e = record { asked = asked; body = e }
 
-  pub exit-unknown : size ≡ 0 → Stepped w bytes (S.Refused UnknownKind (w .records))
-  exit-unknown e = record { means = λ m st. G.unknown m w st bytes (sym body ∙ e); moves = tt }
+  pub exit-unknown : Sized w bytes size → size ≡ 0 → Stepped w bytes (S.Refused UnknownKind (w .records))
+  exit-unknown k e = record { means = λ m st. G.unknown m w st bytes (sym (k .body) ∙ e); moves = tt }
 
-  module _ (some : size ≡ 0 → ⊥) where
-    some-body : 1 ≤ R.bodyLength (R.kindAt bytes)
-    some-body = omega (arith, body, some)
+  some-body : Sized w bytes size → (size ≡ 0 → ⊥) → 1 ≤ R.bodyLength (R.kindAt bytes)
+  some-body k some = omega (arith, k .body, some)
 
-    pub exit-cut : length bytes ≤ size → Stepped w bytes (S.Refused FileFault (w .records))
-    exit-cut b = record { means = λ m st. G.cut m w st bytes some-body (omega (arith, body)); moves = tt }
+  pub exit-cut : Sized w bytes size → (size ≡ 0 → ⊥) → length bytes ≤ size → Stepped w bytes (S.Refused FileFault (w .records))
+  exit-cut k some b = record { means = λ m st. G.cut m w st bytes (some-body k some) (omega (arith, k .body)); moves = tt }
 
-    module _ (fits : size < length bytes) where
-      whole-fits : 1 + R.bodyLength (R.kindAt bytes) ≤ length bytes
-      whole-fits = omega (arith, body)
+  pub standing : Sized w bytes size → (size ≡ 0 → ⊥) → size < length bytes → Standing w bytes size
+  standing k some b = record { sized = k; some = some-body k some; fits = b }
 
-      known-kind : R.known (R.kindAt bytes) ≡ true
-      unfolding R.known
-      known-kind = le-leb 1 (R.bodyLength (R.kindAt bytes)) some-body
+  module _ (k : Standing w bytes size) where
+    whole-fits : 1 + R.bodyLength (R.kindAt bytes) ≤ length bytes
+    whole-fits = omega (arith, k .sized .body, k .fits)
 
-      pub decodable : Whole bytes
-      decodable = record { known-kind = known-kind; fits = whole-fits }
+    known-kind : R.known (R.kindAt bytes) ≡ true
+    unfolding R.known
+    known-kind = le-leb 1 (R.bodyLength (R.kindAt bytes)) (k .some)
 
-      module _ (r : Record) (is-r : recordOf (glnBytes bytes) r ≡ R.recordAt bytes) (d : Bool) (d-is : d ≡ dueIn w r) where
-        pub exit-order : not d ≡ true → Stepped w bytes (S.Refused OutOfOrder (w .records))
-        exit-order e = record { means = λ m st. G.not-due m w st bytes some-body whole-fits r is-r (sym d-is ∙ not-true d e); moves = tt }
+    pub decodable : Whole bytes
+    decodable = record { known-kind = known-kind; fits = whole-fits }
 
-        module _ (is-due : not d ≡ false) (part : List ℕ) (part-is : part ≡ glnPart bytes 1) (g : Gln) (g-is : g ≡ glnIn part r) (a : Answer) (a-says : said a ≡ faultOf (w .heading .hours) (w .heading .parties) r g (w .records)) where
-          due-now : dueIn w r ≡ true
-          due-now = sym d-is ∙ not-false d is-due
+    module _ (r : Record) (is : recordOf (glnBytes bytes) r ≡ R.recordAt bytes) {d : Bool} (d-is : d ≡ dueIn w r) where
+      pub exit-order : not d ≡ true → Stepped w bytes (S.Refused OutOfOrder (w .records))
+      exit-order e = record { means = λ m st. G.not-due m w st bytes (k .some) whole-fits r is (sym d-is ∙ not-true d e); moves = tt }
 
-          gln-is : g ≡ glnIn (glnBytes bytes) r
-          unfolding glnBytes
-          gln-is = g-is ∙ ap (λ (l : List ℕ). glnIn l r) part-is
+      pub due : not d ≡ false → Due w bytes size r
+      due e = record { standing = k; is = is; due = sym d-is ∙ not-false d e }
 
-          a-tells : said a ≡ faultOf (w .heading .hours) (w .heading .parties) r (glnIn (glnBytes bytes) r) (w .records)
-          a-tells = a-says ∙ ap (λ (x : Gln). faultOf (w .heading .hours) (w .heading .parties) r x (w .records)) gln-is
+  module _ {r : Record} {part : List ℕ} {g : Gln} {a : Answer} where
+    pub judged :
+        Due w bytes size r → part ≡ glnPart bytes 1 → g ≡ glnIn part r
+        → said a ≡ faultOf (w .heading .hours) (w .heading .parties) r g (w .records) → Judged w bytes size r g a
+    unfolding glnBytes
+    judged k part-is g-is a-says =
+        let gln : g ≡ glnIn (glnPart bytes 1) r = g-is ∙ ap (λ (l : List ℕ). glnIn l r) part-is in
+        record { due = k; gln = gln; says = a-says ∙ ap (λ (x : Gln). faultOf (w .heading .hours) (w .heading .parties) r x (w .records)) gln }
 
-          pub exit-fault : {x : Refusal} {place : ℕ} {s : Step} → a ≡ AV.Refused x place → s ≡ refusedBy a → Stepped w bytes s
-          exit-fault {x} {place} {s} e is =
-              subst (λ (z : Step). Stepped w bytes z) (sym (is ∙ ap refusedBy e))
-              (record { means = λ m st. G.faulty m w st bytes some-body whole-fits r is-r due-now a a-tells e; moves = tt })
+  module _ {r : Record} {g : Gln} {a : Answer} (j : Judged w bytes size r g a) where
+    k : Standing w bytes size
+    k = j .due .standing
 
-          module _ (done : a ≡ AV.Done) (up : Bool) (up-is : up ≡ risesIn w g) where
-            sound : faultOf (w .heading .hours) (w .heading .parties) r (glnIn (glnBytes bytes) r) (w .records) ≡ accepted
-            sound = sym a-tells ∙ ap said done
+    pub exit-fault : {x : Refusal} {place : ℕ} → a ≡ AV.Refused x place → Stepped w bytes (S.Refused x place)
+    exit-fault e =
+        record { means = λ m st. G.faulty m w st bytes (k .some) (whole-fits k) r (j .due .is) (j .due .due) a (j .says) e; moves = tt }
 
-            up-tells : up ≡ risesIn w (glnIn (glnBytes bytes) r)
-            up-tells = up-is ∙ ap (risesIn w) gln-is
+    module _ (done : a ≡ AV.Done) {up : Bool} (up-is : up ≡ risesIn w g) where
+      sound : faultOf (w .heading .hours) (w .heading .parties) r (glnIn (glnBytes bytes) r) (w .records) ≡ accepted
+      sound = sym (j .says) ∙ ap said done
 
-            pub exit-rising : not up ≡ true → Stepped w bytes (S.Refused GlnFault (w .records))
-            exit-rising e = record { means = λ m st. G.not-rising m w st bytes some-body whole-fits r is-r due-now sound (sym up-tells ∙ not-true up e); moves = tt }
+      up-tells : up ≡ risesIn w (glnIn (glnBytes bytes) r)
+      up-tells = up-is ∙ ap (risesIn w) (j .gln)
 
-            pub judged-asks : (size ≤ 35) × Few w
-            judged-asks = (omega (arith, body, body-short (R.kindAt bytes)), asked .few)
+      pub exit-rising : not up ≡ true → Stepped w bytes (S.Refused GlnFault (w .records))
+      exit-rising e =
+          let falls = sym up-tells ∙ not-true up e in
+          record { means = λ m st. G.not-rising m w st bytes (k .some) (whole-fits k) r (j .due .is) (j .due .due) sound falls; moves = tt }
 
-            pub exit-judged : not up ≡ false → {s : Step} → s ≡ judgedIn w r g size → Stepped w bytes s
-            exit-judged e {s} is =
-                subst (λ (z : Step). Stepped w bytes z) (sym (is ∙ ap (λ (x : Gln). judgedIn w r x size) gln-is))
-                (record { means = λ m st. G.judged-means m w st bytes some-body whole-fits r is-r due-now sound (sym up-tells ∙ not-false up e) size; moves = moves-on w bytes size body fits (asked .few .counted) known-kind r is-r (glnIn (glnBytes bytes) r) })
+      judged-stepped : not up ≡ false → Stepped w bytes (judgedIn w r (glnIn (glnBytes bytes) r) size)
+      judged-stepped e =
+          let rises = sym up-tells ∙ not-false up e in
+          let further = moves-on w bytes size (k .sized .body) (k .fits) (k .sized .asked .few .counted) (known-kind k) r (j .due .is) in
+          record { means = λ m st. G.judged-means m w st bytes (k .some) (whole-fits k) r (j .due .is) (j .due .due) sound rises size; moves = further (glnIn (glnBytes bytes) r) }
+
+      pub exit-judged : not up ≡ false → {s : Step} → s ≡ judgedIn w r g size → Stepped w bytes s
+      exit-judged e {s} is =
+          subst (λ (z : Step). Stepped w bytes z) (sym (is ∙ ap (λ (x : Gln). judgedIn w r x size) (j .gln))) (judged-stepped e)
+
+    pub judged-asks : (size ≤ 35) × Few w
+    judged-asks = (omega (arith, k .sized .body, body-short (R.kindAt bytes)), k .sized .asked .few)

@@ -14,6 +14,7 @@ use Rattle.answer.specs.declared.Answer.the-variants as AV
 use Rattle.answer.specs.declared.Refusal.{Refusal}
 use Rattle.answer.specs.declared.Refusal.the-variants.{WrongCount}
 use Rattle.gln.specs.Gln.{glnAnswer}
+use Rattle.gln.specs.declared.Gln.{Gln}
 use Rattle.gln.specs.declared.Gln.the-variants.{Valid, Invalid}
 use Rattle.record.specs.Record.{recordOf, glnBytes, glnIn, glnSound, faultOf}
 use Rattle.record.specs.declared.Record.{Record}
@@ -58,15 +59,27 @@ module _ (m : MonthFile) (w : Walk) (st : Stands m w) where
   due-is gln (RefixedHour hour f) = rw (hours-are, ← st .fixed, ← st .refixed, ← st .prices)
   due-is gln (End count) = rw (hours-are, ← st .prices)
 
+  -- what is said of a party's GLN: found valid, it has its number; found invalid, it is not sound
+  by-gln :
+      (gln : List ℕ) (share : ℕ) (Says : Gln → Type 0) → glnSound (Party share) (glnAnswer gln) ≡ true → Says (Valid (digitsOnto 0 gln))
+      → Says (glnAnswer gln)
+  unfolding glnAnswer
+  by-gln gln share Says s valid = go (validGln gln) s
+    where
+      answered : Bool → Gln
+      answered v = cond v (Valid (digitsOnto 0 gln)) Invalid
+
+      go : (v : Bool) → glnSound (Party share) (answered v) ≡ true → Says (answered v)
+      go true t = valid
+      go false t = absurd (let z : _≡_ {A = ℕ} 0 1 = cc in omega arith)
+
   -- a party whose GLN was found valid rises by its number; nothing is asked of the others
   pub rises-is : (gln : List ℕ) (r : Record) → glnSound r (glnIn gln r) ≡ true → glnRises m (recordOf gln r) ≡ risesIn w (glnIn gln r)
-  unfolding glnRises glnAnswer
+  unfolding glnRises
   rises-is gln (Heading h) s = refl
-  rises-is gln (Party share) s = go (validGln gln) refl s
-    where
-      go : (v : Bool) → validGln gln ≡ v → glnSound (Party share) (cond v (Valid (digitsOnto 0 gln)) Invalid) ≡ true → risesAfter (m .parties) (record { gln = gln; share = share }) ≡ risesIn w (cond (validGln gln) (Valid (digitsOnto 0 gln)) Invalid)
-      go true e t = rw e (st .rising (record { gln = gln; share = share }))
-      go false e t = absurd (let z : _≡_ {A = ℕ} 0 1 = cc in omega arith)
+  rises-is gln (Party share) s =
+      let here : R.Party = record { gln = gln; share = share } in
+      by-gln gln share (λ (g : Gln). risesAfter (m .parties) here ≡ risesIn w g) s (st .rising here)
   rises-is gln (FixedHour hour f) s = refl
   rises-is gln (Reading r) s = refl
   rises-is gln (Price hour p) s = refl
@@ -74,12 +87,7 @@ module _ (m : MonthFile) (w : Walk) (st : Stands m w) where
   rises-is gln (End count) s = refl
 
   number-is : (gln : List ℕ) (share : ℕ) → glnSound (Party share) (glnAnswer gln) ≡ true → numberIn (glnAnswer gln) ≡ digitsOnto 0 gln
-  unfolding glnAnswer
-  number-is gln share s = go (validGln gln) refl s
-    where
-      go : (v : Bool) → validGln gln ≡ v → glnSound (Party share) (cond v (Valid (digitsOnto 0 gln)) Invalid) ≡ true → numberIn (cond (validGln gln) (Valid (digitsOnto 0 gln)) Invalid) ≡ digitsOnto 0 gln
-      go true e t = rw e
-      go false e t = absurd (let z : _≡_ {A = ℕ} 0 1 = cc in omega arith)
+  number-is gln share s = by-gln gln share (λ (g : Gln). numberIn g ≡ digitsOnto 0 gln) s refl
 
   -- one record more
   pub stands-with : (gln : List ℕ) (r : Record) → glnSound r (glnIn gln r) ≡ true → Stands (F.with m (recordOf gln r)) (withIn w r (glnIn gln r))
@@ -87,11 +95,14 @@ module _ (m : MonthFile) (w : Walk) (st : Stands m w) where
   stands-with gln (Heading h) s =
       record { heading = refl; parties = st .parties; fixed = st .fixed; refixed = st .refixed; prices = st .prices; readings = st .readings; rising = st .rising }
   stands-with gln (Party share) s =
-      record { heading = st .heading; parties = one-more (m .parties) _ (st .parties); fixed = st .fixed; refixed = st .refixed; prices = st .prices; readings = st .readings; rising = λ p. rises-after-one-more (m .parties) (record { gln = gln; share = share }) p ∙ risen p }
+      record { heading = st .heading; parties = one-more (m .parties) _ (st .parties); fixed = st .fixed; refixed = st .refixed; prices = st .prices; readings = st .readings; rising = risen-after }
     where
       risen : (p : R.Party) → rises gln (p .gln) ≡ eqb (w .parties + 1) 0 || ltb (numberIn (glnAnswer gln)) (digitsOnto 0 (p .gln))
       risen p =
           rw (ne-eqb (w .parties + 1) 0 (λ e. omega arith), number-is gln share s)
+
+      risen-after : (p : R.Party) → risesAfter (m .parties ++ (record { gln = gln; share = share } ∷ [])) p ≡ eqb (w .parties + 1) 0 || ltb (numberIn (glnAnswer gln)) (digitsOnto 0 (p .gln))
+      risen-after p = rises-after-one-more (m .parties) (record { gln = gln; share = share }) p ∙ risen p
   stands-with gln (FixedHour hour f) s =
       record { heading = st .heading; parties = st .parties; fixed = one-more (m .fixed) _ (st .fixed); refixed = st .refixed; prices = st .prices; readings = st .readings; rising = st .rising }
   stands-with gln (Reading r) s =
@@ -105,16 +116,27 @@ module _ (m : MonthFile) (w : Walk) (st : Stands m w) where
 
 -- a record of any kind but the end is accepted, and the reading goes on; the end is accepted where its count is right
 module _ (m : MonthFile) (w : Walk) (bytes : List ℕ) (size : ℕ) (gln : List ℕ) where
-  goes-on : (x : Record) → recordOf gln x ≡ R.recordAt bytes → isEnd (recordOf gln x) ≡ false → countRight (w .records) (recordOf gln x) ≡ true → first (recordChecks m (w .records) bytes) ≡ unless (countRight (w .records) (recordOf gln x)) wrongCount (w .records) → Stands (F.with m (R.recordAt bytes)) (withIn w x (glnIn gln x)) → StepMeans w bytes m (S.Next (withIn w x (glnIn gln x)) (size + 1))
+  -- what is left of the checks is the count
+  abbrev CountLeft : R.Record → Type 0
+  CountLeft r = first (recordChecks m (w .records) bytes) ≡ unless (countRight (w .records) r) wrongCount (w .records)
+
+  goes-on :
+      (x : Record) → recordOf gln x ≡ R.recordAt bytes → isEnd (recordOf gln x) ≡ false → countRight (w .records) (recordOf gln x) ≡ true
+      → CountLeft (recordOf gln x) → Stands (F.with m (R.recordAt bytes)) (withIn w x (glnIn gln x))
+      → StepMeans w bytes m (S.Next (withIn w x (glnIn gln x)) (size + 1))
   unfolding unless
   goes-on x is not-end right v st = (v ∙ rw right, ap isEnd (sym is) ∙ not-end, st)
 
-  at-the-end : (count : ℕ) → R.end count ≡ R.recordAt bytes → first (recordChecks m (w .records) bytes) ≡ unless (countRight (w .records) (R.end count)) wrongCount (w .records) → (t : Bool) → eqb count (w .records) ≡ t → StepMeans w bytes m (cond t S.End (S.Refused WrongCount (w .records)))
+  at-the-end :
+      (count : ℕ) → R.end count ≡ R.recordAt bytes → CountLeft (R.end count) → (t : Bool) → eqb count (w .records) ≡ t
+      → StepMeans w bytes m (cond t S.End (S.Refused WrongCount (w .records)))
   unfolding unless isEnd countRight
   at-the-end count is v true e = (v ∙ rw e, ap isEnd (sym is))
   at-the-end count is v false e = v ∙ rw e
 
-  by-kind : (x : Record) → recordOf gln x ≡ R.recordAt bytes → first (recordChecks m (w .records) bytes) ≡ unless (countRight (w .records) (recordOf gln x)) wrongCount (w .records) → Stands (F.with m (R.recordAt bytes)) (withIn w x (glnIn gln x)) → StepMeans w bytes m (judgedIn w x (glnIn gln x) size)
+  by-kind :
+      (x : Record) → recordOf gln x ≡ R.recordAt bytes → CountLeft (recordOf gln x)
+      → Stands (F.with m (R.recordAt bytes)) (withIn w x (glnIn gln x)) → StepMeans w bytes m (judgedIn w x (glnIn gln x) size)
   unfolding isEnd countRight
   by-kind (Heading h) is v st = goes-on (Heading h) is refl refl v st
   by-kind (Party share) is v st = goes-on (Party share) is refl refl v st
@@ -184,7 +206,9 @@ module _ (m : MonthFile) (w : Walk) (st : Stands m w) (bytes : List ℕ) where
         from-fields = from-order ∙ rw is-due
 
         -- 4, 5, 11, 12
-        pub faulty : (a : Answer) {x : Refusal} {place : ℕ} → said a ≡ faultOf (w .heading .hours) (w .heading .parties) r (glnIn gln r) n → a ≡ AV.Refused x place → verdict ≡ refused (named x) place
+        pub faulty :
+            (a : Answer) {x : Refusal} {place : ℕ} → said a ≡ faultOf (w .heading .hours) (w .heading .parties) r (glnIn gln r) n
+            → a ≡ AV.Refused x place → verdict ≡ refused (named x) place
         unfolding andThen
         faulty a s e = from-fields ∙ rw (sym s ∙ ap said e)
 

@@ -6,8 +6,6 @@ use Prim.Native.Nat.{ℕ, _+_, _≤_, _<_}
 use lib.Dec.{eqb, leb, ltb}
 use lib.ListN.{length}
 use Rattle.answer.specs.Said.{named}
-use Rattle.answer.specs.declared.Answer as A
-use Rattle.answer.specs.declared.Answer.the-variants as AV
 use Rattle.answer.specs.declared.Refusal.the-variants.{WrongCount}
 use Rattle.gln.specs.declared.Gln.{Gln}
 use Rattle.gln.specs.declared.Gln.the-variants.{Valid, Invalid}
@@ -114,10 +112,6 @@ pub record Stepped (w : Walk) (bytes : List ℕ) (r : Step) : Type 0 where
 pub record Steppable (w : Walk) (bytes : List ℕ) : Type 0 where
   pub few : Few w
   pub some : 1 ≤ length bytes
-
-abbrev pub refusedBy : A.Answer → Step
-refusedBy AV.Done = S.End
-refusedBy (AV.Refused r place) = S.Refused r place
 
 abbrev pub movedIn : Walk → Record → Gln → ℕ → Step
 movedIn w r g size = S.Next (withIn w r g) (size + 1)

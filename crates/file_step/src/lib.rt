@@ -7,7 +7,7 @@ use record::Heading;
 use record::Record;
 ghost use mathlib.Core.Path.{_≡_};
 ghost use Prim.Native.Nat.{_≤_};
-ghost use Rattle.file_step.specs.Walk.{startOf, dueIn, risesIn, numberIn, withIn, Few, Steppable, Stepped, refusedBy, movedIn, countedIn, judgedIn};
+ghost use Rattle.file_step.specs.Walk.{startOf, dueIn, risesIn, numberIn, withIn, Few, Steppable, Stepped, movedIn, countedIn, judgedIn};
 
 // How far the reading of a file has come: the records before, the heading (H and P are 0 until it is read), how many of each kind, and the number of the
 // last GLN.
@@ -139,23 +139,13 @@ impl Walk {
         }
         let g = record::gln_in(gln::part_at(rest, 1), r);
         let a = record::fault(r, g, self.heading.hours, self.heading.parties, records);
-        let Answer::Done = a else {
-            return refused_by(a);
-        };
+        if let Answer::Refused(x, place) = a {
+            return Step::Refused(x, place);
+        }
         if !rising(self, g) {
             return Step::Refused(Refusal::GlnFault, records);
         }
         judged(self, r, g, size)
-    }
-}
-
-// A record's fault as the step's refusal.
-fn refused_by(a: Answer) -> Step
-    ensures { λ r. ⌜ r ≡ refusedBy a ⌝ }
-{
-    match a {
-        Answer::Done => Step::End,
-        Answer::Refused(x, place) => Step::Refused(x, place),
     }
 }
 
