@@ -1,6 +1,7 @@
 // One record of the month file (01 "The month file"): its kinds and body lengths, the rule of its fields, and its reading. "One byte of kind, then a body.
 // Numbers are big-endian; net supply and price are two's complement." `record_write` has its writing.
 mod fields;
+pub mod kind;
 mod rule;
 mod table;
 
@@ -58,6 +59,19 @@ pub enum Read {
     Refused(Refusal, usize),
 }
 
+// How many bytes a record of each kind has, its kind byte and its body, from the one table of body lengths.
+pub const HEADING_SIZE: usize = 1 + table::BODY[kind::HEADING as usize] as usize;
+
+pub const PARTY_SIZE: usize = 1 + table::BODY[kind::PARTY as usize] as usize;
+
+pub const HOUR_SIZE: usize = 1 + table::BODY[kind::FIXED_HOUR as usize] as usize;
+
+pub const READING_SIZE: usize = 1 + table::BODY[kind::READING as usize] as usize;
+
+pub const PRICE_SIZE: usize = 1 + table::BODY[kind::PRICE as usize] as usize;
+
+pub const END_SIZE: usize = 1 + table::BODY[kind::END as usize] as usize;
+
 // "an hour above 744 .. b above 745" and "a reading's party above 63": the bounds of a record alone are the most hours and parties of a file.
 pub const MOST_HOURS: u16 = 745;
 
@@ -91,7 +105,7 @@ fn heading_in(part: &[u8]) -> Heading
     }
 }
 
-fn flows_in(part: &[u8]) -> Flows
+pub fn flows_in(part: &[u8]) -> Flows
     requires { ⌜ 36 ≤ length (now part) ⌝ }
     ensures { λ r. ⌜ flowsOf r ≡ flowsAt (now (part .entry)) ⌝ }
 {
@@ -104,7 +118,7 @@ fn flows_in(part: &[u8]) -> Flows
     }
 }
 
-fn reading_in(part: &[u8]) -> Reading
+pub fn reading_in(part: &[u8]) -> Reading
     requires { ⌜ 10 ≤ length (now part) ⌝ }
     ensures { λ r. ⌜ reading (readingOf r) ≡ recordAs 4 (now (part .entry)) ⌝ }
 {
@@ -116,11 +130,18 @@ fn reading_in(part: &[u8]) -> Reading
     }
 }
 
-fn price_in(part: &[u8]) -> i64
+pub fn price_in(part: &[u8]) -> i64
     requires { ⌜ 7 ≤ length (now part) ⌝ }
     ensures { λ r. ⌜ r ≡ signed 4 (numberOnto 0 (take 4 (drop 3 (now (part .entry))))) ⌝ }
 {
     fields::signed(fields::number_at(part, 3, 4), TOP_4)
+}
+
+pub fn share_in(part: &[u8]) -> u64
+    requires { ⌜ 22 ≤ length (now part) ⌝ }
+    ensures { λ r. ⌜ r ≡ numberOnto 0 (take 8 (drop 14 (now (part .entry)))) ⌝ }
+{
+    fields::number_at(part, 14, 8)
 }
 
 // The record that stands whole at the start of a part; the bytes of a party's GLN stand after its kind.
