@@ -1,4 +1,3 @@
 pub mod Walking
-pub mod Readers
 pub mod AcceptedFile
 pub mod Unique

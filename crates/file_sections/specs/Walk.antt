@@ -1,4 +1,6 @@
 -- Where the sections of a file start that was walked through, and what the reading of a file tells.
+use mathlib.Core.List.{List}
+use mathlib.Core.Path.{_≡_}
 use Prim.Native.Nat.{ℕ, _+_, _*_}
 use lib.ListN.{length}
 use Rattle.answer.specs.Said.{named}
@@ -7,13 +9,17 @@ use Rattle.file_step.specs.declared.Walk.{Walk}
 use Rattle.file_sections.specs.declared.Sections.{Sections}
 use Rattle.file_sections.specs.declared.MonthRead.{MonthRead}
 use Rattle.file_sections.specs.declared.MonthRead.the-variants as M
-use Rattle.rules.specs.MonthFile.{MonthFile}
+use Rattle.rules.specs.MonthFile.{MonthFile, readMonth}
 use Rattle.rules.specs.Refusals.{Answer, given, refusal}
 
 -- where each section starts, of so many parties, hours and refixed hours: the heading has 10 bytes, a party 22, an hour 36, a price 7
 abbrev pub sectionsFor : CHeading.Heading → ℕ → ℕ → Sections
 sectionsFor h refixed readings =
-    record { heading = h; refixed = refixed; readings = readings; «parties_at» = 10; «fixed_at» = 10 + 22 * h .parties; «refixed_at» = 10 + 22 * h .parties + 36 * h .hours; «prices_at» = 10 + 22 * h .parties + 36 * h .hours + 36 * refixed; «readings_at» = 10 + 22 * h .parties + 36 * h .hours + 36 * refixed + 7 * h .hours }
+    let fixed-at : ℕ = 10 + 22 * h .parties in
+    let refixed-at : ℕ = fixed-at + 36 * h .hours in
+    let prices-at : ℕ = refixed-at + 36 * refixed in
+    let readings-at : ℕ = prices-at + 7 * h .hours in
+    record { heading = h; refixed = refixed; readings = readings; «parties_at» = 10; «fixed_at» = fixed-at; «refixed_at» = refixed-at; «prices_at» = prices-at; «readings_at» = readings-at }
 
 abbrev pub sectionsIn : Walk → Sections
 sectionsIn w = sectionsFor (w .heading) (w .refixed) (w .readings)
@@ -34,3 +40,7 @@ told (M.Refused r place) = refusal (named r) place
 abbrev pub readAnswer : Answer MonthFile → Answer Sections
 readAnswer (given m) = given (sectionsOf m)
 readAnswer (refusal r place) = refusal r place
+
+-- the file is accepted, with these sections
+pub record Accepted (file : List ℕ) (s : Sections) : Type 0 where
+  pub is : readAnswer (readMonth file) ≡ given s

@@ -6,9 +6,8 @@ use Prim.Native.Nat.{ℕ, _+_, _≤_, _<_}
 use lib.Dec.{eqb, leb, ltb}
 use lib.ListN.{length}
 use Rattle.answer.specs.Said.{named}
-use Rattle.answer.specs.declared.Answer as A
-use Rattle.answer.specs.declared.Answer.the-variants as AV
-use Rattle.answer.specs.declared.Refusal.the-variants.{WrongCount}
+use Rattle.answer.specs.declared.Refusal.the-variants.{GlnFault, WrongCount}
+use Rattle.gln.specs.Gln.{glnAnswer}
 use Rattle.gln.specs.declared.Gln.{Gln}
 use Rattle.gln.specs.declared.Gln.the-variants.{Valid, Invalid}
 use Rattle.record.specs.Record.{headingOf}
@@ -43,30 +42,21 @@ dueIn w (RefixedHour hour f) =
     eqb (w .fixed) (w .heading .hours) && ltb (w .refixed) (w .heading .hours) && eqb (w .prices) 0 && eqb hour (w .refixed)
 dueIn w (End count) = leb 1 (w .heading .hours) && eqb (w .prices) (w .heading .hours)
 
--- "GLNs rise strictly.": against the number of the last one
-abbrev pub risesIn : Walk → Gln → Bool
-risesIn w (Valid number) = eqb (w .parties) 0 || ltb (w .«last_gln») number
-risesIn w Invalid = true
-
-abbrev pub numberIn : Gln → ℕ
-numberIn (Valid number) = number
-numberIn Invalid = 0
-
--- with one record more
-abbrev pub withIn : Walk → Record → Gln → Walk
-withIn w (Heading h) g =
+-- with one record more; of a party the number of its GLN is kept
+abbrev pub withIn : Walk → Record → ℕ → Walk
+withIn w (Heading h) number =
     record { records = w .records + 1; heading = h; parties = w .parties; fixed = w .fixed; refixed = w .refixed; prices = w .prices; readings = w .readings; «last_gln» = w .«last_gln» }
-withIn w (Party share) g =
-    record { records = w .records + 1; heading = w .heading; parties = w .parties + 1; fixed = w .fixed; refixed = w .refixed; prices = w .prices; readings = w .readings; «last_gln» = numberIn g }
-withIn w (FixedHour hour f) g =
+withIn w (Party share) number =
+    record { records = w .records + 1; heading = w .heading; parties = w .parties + 1; fixed = w .fixed; refixed = w .refixed; prices = w .prices; readings = w .readings; «last_gln» = number }
+withIn w (FixedHour hour f) number =
     record { records = w .records + 1; heading = w .heading; parties = w .parties; fixed = w .fixed + 1; refixed = w .refixed; prices = w .prices; readings = w .readings; «last_gln» = w .«last_gln» }
-withIn w (Reading r) g =
+withIn w (Reading r) number =
     record { records = w .records + 1; heading = w .heading; parties = w .parties; fixed = w .fixed; refixed = w .refixed; prices = w .prices; readings = w .readings + 1; «last_gln» = w .«last_gln» }
-withIn w (Price hour p) g =
+withIn w (Price hour p) number =
     record { records = w .records + 1; heading = w .heading; parties = w .parties; fixed = w .fixed; refixed = w .refixed; prices = w .prices + 1; readings = w .readings; «last_gln» = w .«last_gln» }
-withIn w (RefixedHour hour f) g =
+withIn w (RefixedHour hour f) number =
     record { records = w .records + 1; heading = w .heading; parties = w .parties; fixed = w .fixed; refixed = w .refixed + 1; prices = w .prices; readings = w .readings; «last_gln» = w .«last_gln» }
-withIn w (End count) g =
+withIn w (End count) number =
     record { records = w .records + 1; heading = w .heading; parties = w .parties; fixed = w .fixed; refixed = w .refixed; prices = w .prices; readings = w .readings; «last_gln» = w .«last_gln» }
 
 -- no more of any kind than records
@@ -115,22 +105,26 @@ pub record Steppable (w : Walk) (bytes : List ℕ) : Type 0 where
   pub few : Few w
   pub some : 1 ≤ length bytes
 
-abbrev pub refusedBy : A.Answer → Step
-refusedBy AV.Done = S.End
-refusedBy (AV.Refused r place) = S.Refused r place
+abbrev pub movedIn : Walk → Record → ℕ → ℕ → Step
+movedIn w r number size = S.Next (withIn w r number) (size + 1)
 
-abbrev pub movedIn : Walk → Record → Gln → ℕ → Step
-movedIn w r g size = S.Next (withIn w r g) (size + 1)
+-- "GLNs rise strictly.": against the number of the last one
+abbrev pub rises : Walk → ℕ → Bool
+rises w number = eqb (w .parties) 0 || ltb (w .«last_gln») number
+
+abbrev pub risenIn : Walk → Record → Gln → ℕ → Step
+risenIn w r (Valid number) size = cond (rises w number) (movedIn w r number size) (S.Refused GlnFault (w .records))
+risenIn w r Invalid size = S.Refused GlnFault (w .records)
 
 abbrev pub countedIn : Walk → ℕ → Step
 countedIn w count = cond (eqb count (w .records)) S.End (S.Refused WrongCount (w .records))
 
 -- the last of a record's checks, and what it comes to
-abbrev pub judgedIn : Walk → Record → Gln → ℕ → Step
-judgedIn w (Heading h) g size = movedIn w (Heading h) g size
-judgedIn w (Party share) g size = movedIn w (Party share) g size
-judgedIn w (FixedHour hour f) g size = movedIn w (FixedHour hour f) g size
-judgedIn w (Reading r) g size = movedIn w (Reading r) g size
-judgedIn w (Price hour p) g size = movedIn w (Price hour p) g size
-judgedIn w (RefixedHour hour f) g size = movedIn w (RefixedHour hour f) g size
-judgedIn w (End count) g size = countedIn w count
+abbrev pub judgedIn : Walk → Record → List ℕ → ℕ → Step
+judgedIn w (Heading h) gln size = movedIn w (Heading h) 0 size
+judgedIn w (Party share) gln size = risenIn w (Party share) (glnAnswer gln) size
+judgedIn w (FixedHour hour f) gln size = movedIn w (FixedHour hour f) 0 size
+judgedIn w (Reading r) gln size = movedIn w (Reading r) 0 size
+judgedIn w (Price hour p) gln size = movedIn w (Price hour p) 0 size
+judgedIn w (RefixedHour hour f) gln size = movedIn w (RefixedHour hour f) 0 size
+judgedIn w (End count) gln size = countedIn w count

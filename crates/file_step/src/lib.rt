@@ -7,7 +7,7 @@ use record::Heading;
 use record::Record;
 ghost use mathlib.Core.Path.{_≡_};
 ghost use Prim.Native.Nat.{_≤_};
-ghost use Rattle.file_step.specs.Walk.{startOf, dueIn, risesIn, numberIn, withIn, Few, Steppable, Stepped, refusedBy, movedIn, countedIn, judgedIn};
+ghost use Rattle.file_step.specs.Walk.{startOf, dueIn, withIn, Few, Steppable, Stepped, movedIn, risenIn, countedIn, judgedIn};
 
 // How far the reading of a file has come: the records before, the heading (H and P are 0 until it is read), how many of each kind, and the number of the
 // last GLN.
@@ -77,30 +77,10 @@ fn due(w: Walk, r: Record) -> bool
     }
 }
 
-// "GLNs rise strictly.": asked of a party record whose GLN was found valid.
-fn rising(w: Walk, g: Gln) -> bool
-    ensures { λ d. ⌜ d ≡ risesIn w g ⌝ }
-{
-    match g {
-        Gln::Valid(number) => (w.parties == 0) | (w.last_gln < number),
-        Gln::Invalid => true,
-    }
-}
-
-// The number of a GLN that was found valid.
-fn number_of(g: Gln) -> u64
-    ensures { λ n. ⌜ n ≡ numberIn g ⌝ }
-{
-    match g {
-        Gln::Valid(number) => number,
-        Gln::Invalid => 0,
-    }
-}
-
-// Where the reading stands with one record more.
-fn with(w: Walk, r: Record, g: Gln) -> Walk
+// Where the reading stands with one record more. Of a party the number of its GLN is kept.
+fn with(w: Walk, r: Record, gln_number: u64) -> Walk
     requires { ⌜ Few w ⌝ }
-    ensures { λ v. ⌜ v ≡ withIn w r g ⌝ }
+    ensures { λ v. ⌜ v ≡ withIn w r «gln_number» ⌝ }
 {
     let mut v = w;
     v.records = w.records + 1;
@@ -108,7 +88,7 @@ fn with(w: Walk, r: Record, g: Gln) -> Walk
         Record::Heading(h) => v.heading = h,
         Record::Party(_) => {
             v.parties = w.parties + 1;
-            v.last_gln = number_of(g);
+            v.last_gln = gln_number;
         }
         Record::FixedHour(_, _) => v.fixed = w.fixed + 1,
         Record::Reading(_) => v.readings = w.readings + 1,
@@ -137,34 +117,37 @@ impl Walk {
         if !due(self, r) {
             return Step::Refused(Refusal::OutOfOrder, records);
         }
-        let g = record::gln_in(gln::part_at(rest, 1), r);
-        let a = record::fault(r, g, self.heading.hours, self.heading.parties, records);
-        let Answer::Done = a else {
-            return refused_by(a);
-        };
-        if !rising(self, g) {
-            return Step::Refused(Refusal::GlnFault, records);
+        let part = gln::part_at(rest, 1);
+        let a = record::fault(r, part, self.heading.hours, self.heading.parties, records);
+        if let Answer::Refused(x, place) = a {
+            return Step::Refused(x, place);
         }
-        judged(self, r, g, size)
-    }
-}
-
-// A record's fault as the step's refusal.
-fn refused_by(a: Answer) -> Step
-    ensures { λ r. ⌜ r ≡ refusedBy a ⌝ }
-{
-    match a {
-        Answer::Done => Step::End,
-        Answer::Refused(x, place) => Step::Refused(x, place),
+        judged(self, r, part, size)
     }
 }
 
 // The reading goes on: where it stands after the record, so many bytes further.
-fn moved(w: Walk, r: Record, g: Gln, size: usize) -> Step
+fn moved(w: Walk, r: Record, gln_number: u64, size: usize) -> Step
     requires { ⌜ (size ≤ 35) × Few w ⌝ }
-    ensures { λ s. ⌜ s ≡ movedIn w r g size ⌝ }
+    ensures { λ s. ⌜ s ≡ movedIn w r «gln_number» size ⌝ }
 {
-    Step::Next(with(w, r, g), size + 1)
+    Step::Next(with(w, r, gln_number), size + 1)
+}
+
+// 5 of a party: "not rising". "GLNs rise strictly."
+fn risen(w: Walk, r: Record, g: Gln, size: usize) -> Step
+    requires { ⌜ (size ≤ 35) × Few w ⌝ }
+    ensures { λ s. ⌜ s ≡ risenIn w r g size ⌝ }
+{
+    match g {
+        Gln::Valid(number) => {
+            if (w.parties == 0) | (w.last_gln < number) {
+                return moved(w, r, number, size);
+            }
+            Step::Refused(Refusal::GlnFault, w.records)
+        }
+        Gln::Invalid => Step::Refused(Refusal::GlnFault, w.records),
+    }
 }
 
 // 15: "wrong count in the end record".
@@ -178,18 +161,14 @@ fn counted(w: Walk, count: u32) -> Step
     }
 }
 
-// The last of a record's checks, and what it comes to.
-fn judged(w: Walk, r: Record, g: Gln, size: usize) -> Step
+// The last of a record's checks, and what it comes to: a party's GLN has to rise, an end has to count right.
+fn judged(w: Walk, r: Record, part: &[u8], size: usize) -> Step
     requires { ⌜ (size ≤ 35) × Few w ⌝ }
-    ensures { λ s. ⌜ s ≡ judgedIn w r g size ⌝ }
+    ensures { λ s. ⌜ s ≡ judgedIn w r (now (part .entry)) size ⌝ }
 {
     match r {
-        Record::Heading(_) => moved(w, r, g, size),
-        Record::Party(_) => moved(w, r, g, size),
-        Record::FixedHour(_, _) => moved(w, r, g, size),
-        Record::Reading(_) => moved(w, r, g, size),
-        Record::Price(_, _) => moved(w, r, g, size),
-        Record::RefixedHour(_, _) => moved(w, r, g, size),
+        Record::Party(_) => risen(w, r, gln::check(part), size),
         Record::End(count) => counted(w, count),
+        _ => moved(w, r, 0, size),
     }
 }

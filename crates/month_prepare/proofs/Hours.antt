@@ -8,7 +8,7 @@ use native.Mathlib.Omega.{arith}
 use lib.ListN.{length}
 use Rattle.answer.specs.Said.{named}
 use Rattle.answer.specs.declared.Refusal.{Refusal}
-use Rattle.file_sections.specs.Fields.{Accepted}
+use Rattle.file_sections.specs.Walk.{Accepted}
 use Rattle.file_sections.specs.declared.Sections.{Sections}
 use Rattle.file_sections.proofs.AcceptedFile.{month-whole, refixed-are}
 use Rattle.month_series.specs.Series.{seriesOf, residualAt, judgedVerdict, SeriesIs}

@@ -9,7 +9,7 @@ use Rattle.answer.specs.Said.{said}
 use Rattle.apportion.specs.Good.{Started}
 use Rattle.apportion.specs.declared.Carries.{Carries}
 use Rattle.month_prepare.specs.declared.Made.{Made}
-use Rattle.file_sections.specs.Fields.{Accepted}
+use Rattle.file_sections.specs.Walk.{Accepted}
 use Rattle.file_sections.specs.declared.Sections.{Sections}
 use Rattle.month_series.specs.Series.{residualAt, judgedVerdict, beginningsOf}
 use Rattle.month_series.specs.declared.Judged.{Judged}

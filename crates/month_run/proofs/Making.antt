@@ -12,7 +12,7 @@ use Rattle.month_sums.specs.declared.Outcome.{Outcome}
 use Rattle.month_sums.proofs.Chain as C
 use Rattle.month_prepare.specs.Checks.{MadeIs}
 use Rattle.month_prepare.specs.declared.Made.{Made}
-use Rattle.file_sections.specs.Fields.{Accepted}
+use Rattle.file_sections.specs.Walk.{Accepted}
 use Rattle.file_sections.specs.declared.Sections.{Sections}
 use Rattle.month_run_hours.specs.Running.{RunKnown}
 use Rattle.residual.specs.Applied.{appliedOf}

@@ -6,9 +6,11 @@ use Prim.Native.Nat.{ℕ, suc, _≤_, _<_}
 use native.Mathlib.Omega.{arith}
 use lib.Dec.{eqb, leb}
 use lib.ListN.{length, getD}
-use Rattle.file_sections.specs.Fields.{Accepted, ReadingIs}
+use Rattle.file_sections.specs.Walk.{Accepted}
+use Rattle.file_fields.specs.Fields.{ReadingIs}
 use Rattle.file_sections.specs.declared.Sections.{Sections}
-use Rattle.file_sections.proofs.AcceptedFile.{month-whole, readings-are, reading-read}
+use Rattle.file_sections.proofs.AcceptedFile.{month-whole, readings-are}
+use Rattle.file_fields.proofs.FieldsRead.{reading-read}
 use Rattle.month_series.specs.Series.{beginning, beginningsOf, followsBy}
 use Rattle.month_series.proofs.Weights.{beginning-rises, S-by-beginnings}
 use Rattle.record.specs.Record.{readingOf}

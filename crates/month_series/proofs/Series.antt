@@ -10,9 +10,11 @@ use lib.Dec.{eqb}
 use lib.ListN.{length, set}
 use Rattle.answer.specs.Said.{named}
 use Rattle.answer.specs.declared.Refusal.{Refusal}
-use Rattle.file_sections.specs.Fields.{Accepted, FixedAsked, RefixedAsked, FixedIs, RefixedIs}
+use Rattle.file_sections.specs.Walk.{Accepted}
+use Rattle.file_fields.specs.Fields.{FixedAsked, RefixedAsked, FixedIs, RefixedIs}
 use Rattle.file_sections.specs.declared.Sections.{Sections}
-use Rattle.file_sections.proofs.AcceptedFile.{month-whole, hours-are, refixed-are, fixed-read, refixed-read}
+use Rattle.file_sections.proofs.AcceptedFile.{month-whole, hours-are, refixed-are}
+use Rattle.file_fields.proofs.FieldsRead.{fixed-read, refixed-read}
 use Rattle.month_series.specs.Series.{seriesOf, residualAt, hoursIn, HourAsked, estimatedOne, SeriesIs}
 use Rattle.month_series.specs.declared.Judged.the-variants.{Figures, Refused}
 use Rattle.month_series.proofs.OneHour.{figure-is}

@@ -1,5 +1,5 @@
 // The series of a month that a file is read as (01 "From flows to the curve" and "Refusal numbers"): its load shares, the fixed and refixed residuals with 7, 8
-// and 9, the curve's beginnings, and 13 by reading. All but `beginnings` go through the file by the readers of `file_sections`, so
+// and 9, the curve's beginnings, and 13 by reading. All but `beginnings` go through the file by the readers of `file_fields`, so
 // they ask that it is accepted.
 use answer::Answer;
 use answer::Refusal;
@@ -11,7 +11,7 @@ ghost use mathlib.Core.Path.{_≡_};
 ghost use Prim.Native.Nat.{suc, _≤_};
 ghost use lib.ListN.{length};
 ghost use Rattle.answer.specs.Said.{said};
-ghost use Rattle.file_sections.specs.Fields.{Accepted};
+ghost use Rattle.file_sections.specs.Walk.{Accepted};
 ghost use Rattle.month_series.specs.Series.{seriesOf, hoursIn, beginning, beginningsOf, HourAsked, estimatedOne, followsBy, SeriesIs};
 ghost use Rattle.record.specs.Record.{flowsOf};
 ghost use Rattle.residual.specs.Hour.{judgement};
@@ -38,7 +38,7 @@ pub fn shares(file: &[u8], s: Sections, out: &mut [u64])
 {
     let mut i = 0;
     while i < out.len() {
-        out[i] = file_sections::load_share(file, s, i);
+        out[i] = file_fields::load_share(file, s, i);
         i += 1;
     }
 }
@@ -49,9 +49,9 @@ fn flows_at(file: &[u8], s: Sections, refixed: bool, t: usize) -> Flows
     ensures { λ f. ⌜ flowsOf f ≡ flowsAt (seriesOf (monthOf (now (file .entry))) refixed) t ⌝ }
 {
     if refixed {
-        file_sections::refixed_flows(file, s, t)
+        file_fields::refixed_flows(file, s, t)
     } else {
-        file_sections::fixed_flows(file, s, t)
+        file_fields::fixed_flows(file, s, t)
     }
 }
 
@@ -135,7 +135,7 @@ pub fn followed(file: &[u8], s: Sections, beginnings: &[u64]) -> Answer
     let readings = s.readings;
     let mut j = 0;
     while j < readings {
-        let x = file_sections::reading(file, s, j);
+        let x = file_fields::reading(file, s, j);
         let a = x.a as usize;
         let b = x.b as usize;
         if !follows(x.e_wh, beginnings[a], beginnings[b]) {

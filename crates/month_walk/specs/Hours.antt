@@ -8,7 +8,7 @@ use lib.ListN.{length}
 use Rattle.apportion.specs.Filled.{Filled}
 use Rattle.apportion.specs.Good.{Good}
 use Rattle.apportion.specs.declared.Carries.{Carries}
-use Rattle.file_sections.specs.Fields.{Accepted}
+use Rattle.file_sections.specs.Walk.{Accepted}
 use Rattle.file_sections.specs.declared.Sections.{Sections}
 use Rattle.hour_settled.specs.Column.{column, Column, addable}
 use Rattle.hour_settled.specs.declared.Settled.{Settled}

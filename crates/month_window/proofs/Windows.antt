@@ -10,10 +10,12 @@ use native.Mathlib.Numerals.{add-one}
 use native.Mathlib.Omega.{arith}
 use lib.Dec.{eqb}
 use lib.ListN.{length}
-use Rattle.file_sections.specs.Fields.{Accepted, ReadingAsked, ReadingIs}
+use Rattle.file_sections.specs.Walk.{Accepted}
+use Rattle.file_fields.specs.Fields.{ReadingAsked, ReadingIs}
 use Rattle.file_sections.specs.declared.Sections.{Sections}
-use Rattle.file_sections.proofs.AcceptedFile.{read-as, month-whole, readings-are, reading-read}
-use Rattle.file_sections.proofs.Readers.{reading-stands}
+use Rattle.file_sections.proofs.AcceptedFile.{read-as, month-whole, readings-are}
+use Rattle.file_fields.proofs.FieldsRead.{reading-read}
+use Rattle.file_fields.proofs.Readers.{reading-stands}
 use Rattle.month_series.specs.Series.{beginning}
 use Rattle.month_window.specs.Window.{figureBy, figureTo, noWh, Window, Asked, Taken, Added}
 use Rattle.month_window.proofs.Figures.{by-cong, by-at-most}
@@ -43,7 +45,7 @@ pub few-readings : (file : List ℕ) (s : Sections) → Accepted file s → s .r
 few-readings file s ok =
     ⊎-elim (λ (z : s .readings ≡ 0). rw z zero-le)
     (λ (some : 0 < s .readings).
-    omega (arith, at-most-longest file (read-as file s ok), reading-stands file s ok (monthOf file) (read-as file s ok) (s .readings - 1) (omega arith) .fits))
+    omega (arith, at-most-longest file (read-as file s ok), reading-stands file s ok (s .readings - 1) (omega arith) .fits))
     (eq-zero-or-pos (s .readings))
 
 -- the rules' figure of a reading for a party is the curve's

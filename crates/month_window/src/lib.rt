@@ -97,7 +97,7 @@ pub fn window(
     let readings = s.readings;
     let mut j = 0;
     while j < readings {
-        let x = file_sections::reading(file, s, j);
+        let x = file_fields::reading(file, s, j);
         add_reading(x, curve, beginnings, start, hours, out);
         j += 1;
     }

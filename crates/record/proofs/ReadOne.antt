@@ -9,12 +9,11 @@ use Rattle.answer.specs.declared.Answer as A
 use Rattle.answer.specs.declared.Answer.the-variants.{Done, Refused}
 use Rattle.answer.specs.declared.Refusal as A′
 use Rattle.gln.specs.Gln.{glnPart}
-use Rattle.gln.specs.declared.Gln.{Gln}
-use Rattle.record.specs.Record.{Whole, recordOf, glnIn, glnBytes, faultOf}
+use Rattle.record.specs.Record.{Whole, recordOf, glnBytes, faultOf}
 use Rattle.record.specs.declared.Record as C
-use Rattle.rules.specs.Record.{Record, bodyLength, known, kindAt, recordAt, fieldChecks, readAlone}
+use Rattle.rules.specs.Record.{Record, bodyLength, known, kindAt, recordAt, alone, checks, readAlone}
 use Rattle.rules.specs.Refusals.{Verdict, Answer, given, refusal, fileFault, unknownKind, unless, andThen, first, answer}
-use Rattle.record.proofs.Judging.{fault-is}
+use Rattle.rules.specs.Limits.{mostHours, mostParties}
 
 module _ (s : List ℕ) where
   pub nothing-there : length s < 1 → refusal fileFault 0 ≡ readAlone s
@@ -37,19 +36,19 @@ module _ (s : List ℕ) where
         unfolding known
         stands-whole = record { known-kind = le-leb 1 (bodyLength (kindAt s)) kind; fits = fits }
 
-        judged : answer (first (fieldChecks 745 64 (recordAt s) 0)) (recordAt s) ≡ readAlone s
+        judged : answer (first (checks alone (recordAt s))) (recordAt s) ≡ readAlone s
         unfolding readAlone first andThen unless known
         judged =
             rw (le-leb 1 (length s) some, le-leb 1 (bodyLength (kindAt s)) kind, le-leb (1 + bodyLength (kindAt s)) (length s) fits)
 
         -- what the rule of the fields says of the decoded record is the answer
-        module _ (r : C.Record) (decoded : recordOf (glnBytes s) r ≡ recordAt s) {part : List ℕ} (there : part ≡ glnPart s 1) {g : Gln} (tested : g ≡ glnIn part r) (a : A.Answer) (fault : said a ≡ faultOf 745 64 r g 0) where
+        module _ (r : C.Record) (decoded : recordOf (glnBytes s) r ≡ recordAt s) {part : List ℕ} (there : part ≡ glnPart s 1)
+            (a : A.Answer) (fault : said a ≡ faultOf mostHours mostParties part r 0) where
           told-by : answer (said a) (recordOf (glnBytes s) r) ≡ readAlone s
-          unfolding glnBytes
+          unfolding glnBytes faultOf
           told-by =
-              ap (λ (v : Verdict). answer v (recordOf (glnBytes s) r))
-              (fault ∙ ap (λ (x : Gln). faultOf 745 64 r x 0) (tested ∙ ap (λ (l : List ℕ). glnIn l r) there) ∙ fault-is 745 64 (glnBytes s) r 0)
-              ∙ ap (λ (x : Record). answer (first (fieldChecks 745 64 x 0)) x) decoded
+              ap (λ (v : Verdict). answer v (recordOf (glnBytes s) r)) (fault ∙ ap (λ (l : List ℕ). faultOf mostHours mostParties l r 0) there)
+              ∙ ap (λ (x : Record). answer (first (checks alone x)) x) decoded
               ∙ judged
 
           pub whole-record : a ≡ Done → given (recordOf (glnBytes s) r) ≡ readAlone s

@@ -5,7 +5,6 @@ use Prim.Native.Nat.{ℕ}
 use Rattle.answer.specs.Said.{said}
 use Rattle.answer.specs.declared.Answer.{Answer}
 use Rattle.answer.proofs.Said.{said-once, named-once}
-use Rattle.gln.specs.declared.Gln.{Gln}
 use Rattle.record.specs.Record.{recordOf, faultOf, told}
 use Rattle.record.specs.declared.Flows as CFlows
 use Rattle.record.specs.declared.Read.{Read}
@@ -16,8 +15,8 @@ use Rattle.rules.specs.Flows as RFlows
 use Rattle.rules.specs.Record as RRecord
 use Rattle.rules.specs.Refusals as R
 
-pub fault-once : (hours parties place : ℕ) (r : Record) (g : Gln) (a b : Answer) → said a ≡ faultOf hours parties r g place → said b ≡ faultOf hours parties r g place → a ≡ b
-fault-once hours parties place r g a b p q = said-once a b (p ∙ sym q)
+pub fault-once : (hours parties place : ℕ) (gln : List ℕ) (r : Record) (a b : Answer) → said a ≡ faultOf hours parties gln r place → said b ≡ faultOf hours parties gln r place → a ≡ b
+fault-once hours parties place gln r a b p q = said-once a b (p ∙ sym q)
 
 -- the code's record can be read back from that of the rules
 abbrev flowsBack : RFlows.Flows → CFlows.Flows

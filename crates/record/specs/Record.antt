@@ -1,13 +1,11 @@
 -- What the code's records and answers are in the words of the rules (01 "The month file").
-use mathlib.Core.Bool.{Bool, true, false}
-use mathlib.Core.List.{List, [], _∷_}
+use mathlib.Core.Bool.{true}
+use mathlib.Core.List.{List}
 use mathlib.Core.Path.{_≡_}
 use Prim.Native.Nat.{ℕ, _+_, _≤_}
 use lib.ListN.{length, drop}
 use Rattle.answer.specs.Said.{named}
-use Rattle.gln.specs.Gln.{glnAnswer, glnPart}
-use Rattle.gln.specs.declared.Gln.{Gln}
-use Rattle.gln.specs.declared.Gln.the-variants.{Valid, Invalid}
+use Rattle.gln.specs.Gln.{glnPart}
 use Rattle.record.specs.declared.Heading as CHeading
 use Rattle.record.specs.declared.Flows as CFlows
 use Rattle.record.specs.declared.Reading as CReading
@@ -17,7 +15,7 @@ use Rattle.record.specs.declared.Read.{Read}
 use Rattle.record.specs.declared.Read.the-variants as R
 use Rattle.rules.specs.Flows as RFlows
 use Rattle.rules.specs.Record as RRecord
-use Rattle.rules.specs.Refusals.{outOfRange, glnFault, spanFault, energyTooLarge, Verdict, Answer, given, refusal, unless, first}
+use Rattle.rules.specs.Refusals.{Verdict, Answer, given, refusal, first}
 
 -- the fields of a heading, of an hour's flows and of a reading
 abbrev pub headingOf : CHeading.Heading → RRecord.Heading
@@ -51,37 +49,11 @@ recordAs kind bytes = RRecord.recordFrom kind (RRecord.cutInto (RRecord.fieldWid
 
 -- "03 fixed hour: hour 2, status 1, net supply 8, production 8, hourly 8, flex 8", "06 refixed hour: as 03": the flows of either
 unfoldable pub flowsAt : List ℕ → RFlows.Flows
-flowsAt bytes = RRecord.flowsFrom (RRecord.cutInto (RRecord.fieldWidths RRecord.fixedHourKind) (drop 1 bytes))
+flowsAt bytes = RRecord.flowsFrom (RRecord.cutInto RRecord.hourWidths (drop 1 bytes))
 
--- the test of the GLN beside a record: asked of a party alone
-abbrev pub glnIn : List ℕ → Record → Gln
-glnIn gln (Heading h) = Invalid
-glnIn gln (Party share) = glnAnswer gln
-glnIn gln (FixedHour hour f) = Invalid
-glnIn gln (Reading r) = Invalid
-glnIn gln (Price hour p) = Invalid
-glnIn gln (RefixedHour hour f) = Invalid
-glnIn gln (End count) = Invalid
-
-abbrev pub glnSound : Record → Gln → Bool
-glnSound (Heading h) g = true
-glnSound (Party share) (Valid n) = true
-glnSound (Party share) Invalid = false
-glnSound (FixedHour hour f) g = true
-glnSound (Reading r) g = true
-glnSound (Price hour p) g = true
-glnSound (RefixedHour hour f) g = true
-glnSound (End count) g = true
-
--- 4, 5, 11, 12, in that order, where the GLN has been tested already: law `fault-is` reads it as the rule of the record's fields
-unfoldable pub faultOf : ℕ → ℕ → Record → Gln → ℕ → Verdict
-faultOf hours parties r g place =
-    first
-    (unless (RRecord.inRange hours parties (recordOf [] r)) outOfRange place
-    ∷ unless (glnSound r g) glnFault place
-    ∷ unless (RRecord.spanRight hours (recordOf [] r)) spanFault place
-    ∷ unless (RRecord.energyRight (recordOf [] r)) energyTooLarge place
-    ∷ [])
+-- 4, 5, 11, 12, in that order, of a record with the bytes of a GLN beside it, by itself with so many hours and parties, at a place
+unfoldable pub faultOf : ℕ → ℕ → List ℕ → Record → ℕ → Verdict
+faultOf hours parties gln r place = first (RRecord.checks (RRecord.byItself hours parties place) (recordOf gln r))
 
 -- a record of some kind stands whole at the start of some bytes
 pub record Whole (bytes : List ℕ) : Type 0 where

@@ -1,18 +1,18 @@
 // One record of the month file (01 "The month file"): its kinds and body lengths, the rule of its fields, and its reading. "One byte of kind, then a body.
 // Numbers are big-endian; net supply and price are two's complement." `record_write` has its writing.
 mod fields;
+pub mod kind;
 mod rule;
 mod table;
 
 use answer::Answer;
 use answer::Refusal;
-use gln::Gln;
 ghost use mathlib.Core.Path.{_≡_};
 ghost use Prim.Native.Nat.{_≤_};
 ghost use lib.ListN.{length, take, drop};
 ghost use Rattle.answer.specs.Said.{said};
-ghost use Rattle.record.specs.Record.{recordOf, headingOf, flowsOf, readingOf, glnIn, glnBytes, flowsAt, faultOf, told, recordAs, Whole};
-ghost use Rattle.rules.specs.Record.{heading, reading, numberOnto, signed, recordAt, bodyLength, readAlone};
+ghost use Rattle.record.specs.Record.{recordOf, headingOf, flowsOf, readingOf, glnBytes, flowsAt, faultOf, told, recordAs, Whole};
+ghost use Rattle.rules.specs.Record.{headingKind, readingKind, heading, reading, numberOnto, signed, recordAt, bodyLength, readAlone};
 
 // "01 heading: area 2, year 2, month 1, hours H 2, parties P 1, loss carrier 1"
 pub struct Heading {
@@ -58,10 +58,23 @@ pub enum Read {
     Refused(Refusal, usize),
 }
 
-// "an hour above 744 .. b above 745" and "a reading's party above 63": the bounds of a record alone are the most hours and parties of a file.
-pub const MOST_HOURS: u16 = 745;
+// How many bytes a record of each kind has, its kind byte and its body, from the one table of body lengths.
+pub const HEADING_SIZE: usize = 1 + table::BODY[kind::HEADING as usize] as usize;
 
-pub const MOST_PARTIES: u8 = 64;
+pub const PARTY_SIZE: usize = 1 + table::BODY[kind::PARTY as usize] as usize;
+
+pub const HOUR_SIZE: usize = 1 + table::BODY[kind::FIXED_HOUR as usize] as usize;
+
+pub const READING_SIZE: usize = 1 + table::BODY[kind::READING as usize] as usize;
+
+pub const PRICE_SIZE: usize = 1 + table::BODY[kind::PRICE as usize] as usize;
+
+pub const END_SIZE: usize = 1 + table::BODY[kind::END as usize] as usize;
+
+// "an hour above 744 .. b above 745" and "a reading's party above 63": the bounds of a record alone are the most hours and parties of a file.
+pub const MOST_HOURS: u16 = limits::MOST_HOURS as u16;
+
+pub const MOST_PARTIES: u8 = limits::MOST_PARTIES as u8;
 
 // The largest numbers of 4 and of 8 bytes, by which two's complement is read and written.
 pub const TOP_4: u64 = 4294967295;
@@ -79,7 +92,7 @@ pub fn body_length(kind: u8) -> usize
 // The fields of a record that stands whole at the start of a part, kind by kind.
 fn heading_in(part: &[u8]) -> Heading
     requires { ⌜ 10 ≤ length (now part) ⌝ }
-    ensures { λ r. ⌜ heading (headingOf r) ≡ recordAs 1 (now (part .entry)) ⌝ }
+    ensures { λ r. ⌜ heading (headingOf r) ≡ recordAs headingKind (now (part .entry)) ⌝ }
 {
     Heading {
         area: fields::u16_at(part, 1),
@@ -91,7 +104,7 @@ fn heading_in(part: &[u8]) -> Heading
     }
 }
 
-fn flows_in(part: &[u8]) -> Flows
+pub fn flows_in(part: &[u8]) -> Flows
     requires { ⌜ 36 ≤ length (now part) ⌝ }
     ensures { λ r. ⌜ flowsOf r ≡ flowsAt (now (part .entry)) ⌝ }
 {
@@ -104,9 +117,9 @@ fn flows_in(part: &[u8]) -> Flows
     }
 }
 
-fn reading_in(part: &[u8]) -> Reading
+pub fn reading_in(part: &[u8]) -> Reading
     requires { ⌜ 10 ≤ length (now part) ⌝ }
-    ensures { λ r. ⌜ reading (readingOf r) ≡ recordAs 4 (now (part .entry)) ⌝ }
+    ensures { λ r. ⌜ reading (readingOf r) ≡ recordAs readingKind (now (part .entry)) ⌝ }
 {
     Reading {
         party: fields::u8_at(part, 1),
@@ -116,11 +129,18 @@ fn reading_in(part: &[u8]) -> Reading
     }
 }
 
-fn price_in(part: &[u8]) -> i64
+pub fn price_in(part: &[u8]) -> i64
     requires { ⌜ 7 ≤ length (now part) ⌝ }
     ensures { λ r. ⌜ r ≡ signed 4 (numberOnto 0 (take 4 (drop 3 (now (part .entry))))) ⌝ }
 {
     fields::signed(fields::number_at(part, 3, 4), TOP_4)
+}
+
+pub fn share_in(part: &[u8]) -> u64
+    requires { ⌜ 22 ≤ length (now part) ⌝ }
+    ensures { λ r. ⌜ r ≡ numberOnto 0 (take 8 (drop 14 (now (part .entry)))) ⌝ }
+{
+    fields::number_at(part, 14, 8)
 }
 
 // The record that stands whole at the start of a part; the bytes of a party's GLN stand after its kind.
@@ -128,48 +148,42 @@ pub fn decode(part: &[u8]) -> Record
     requires { ⌜ Whole (now part) ⌝ }
     ensures { λ r. ⌜ recordOf (glnBytes (now (part .entry))) r ≡ recordAt (now (part .entry)) ⌝ }
 {
-    let kind = part[0];
-    match kind {
-        1 => Record::Heading(heading_in(part)),
-        2 => Record::Party(fields::number_at(part, 14, 8)),
-        3 => Record::FixedHour(fields::u16_at(part, 1), flows_in(part)),
-        4 => Record::Reading(reading_in(part)),
-        5 => Record::Price(fields::u16_at(part, 1), price_in(part)),
-        6 => Record::RefixedHour(fields::u16_at(part, 1), flows_in(part)),
+    let first = part[0];
+    match first {
+        kind::HEADING => Record::Heading(heading_in(part)),
+        kind::PARTY => Record::Party(fields::number_at(part, 14, 8)),
+        kind::FIXED_HOUR => Record::FixedHour(fields::u16_at(part, 1), flows_in(part)),
+        kind::READING => Record::Reading(reading_in(part)),
+        kind::PRICE => Record::Price(fields::u16_at(part, 1), price_in(part)),
+        kind::REFIXED_HOUR => Record::RefixedHour(fields::u16_at(part, 1), flows_in(part)),
         _ => Record::End(fields::u32_at(part, 1)),
     }
 }
 
-// The test of the GLN beside a record: one for a party, none for any other kind.
-pub fn gln_in(part: &[u8], r: Record) -> Gln
-    ensures { λ g. ⌜ g ≡ glnIn (now (part .entry)) r ⌝ }
+// THE RULE OF A RECORD'S FIELDS, 4, 5, 11, 12 in that order, kind by kind, for a file of so many hours and parties, at a place. The bytes of a party's GLN
+// stand beside it; of another kind they are not looked at.
+pub fn fault(r: Record, gln: &[u8], hours: u16, parties: u8, place: usize) -> Answer
+    ensures { λ a. ⌜ said a ≡ faultOf hours parties (now (gln .entry)) r place ⌝ }
 {
     match r {
-        Record::Heading(_) => Gln::Invalid,
-        Record::Party(_) => gln::check(part),
-        Record::FixedHour(_, _) => Gln::Invalid,
-        Record::Reading(_) => Gln::Invalid,
-        Record::Price(_, _) => Gln::Invalid,
-        Record::RefixedHour(_, _) => Gln::Invalid,
-        Record::End(_) => Gln::Invalid,
-    }
-}
-
-// THE RULE OF A RECORD'S FIELDS, 4, 5, 11, 12 in that order, for a file of so many hours and parties, at a place. The GLN comes tested, so that no one
-// tests it twice.
-pub fn fault(r: Record, gln: Gln, hours: u16, parties: u8, place: usize) -> Answer
-    ensures { λ a. ⌜ said a ≡ faultOf hours parties r gln place ⌝ }
-{
-    if !rule::in_range(r, hours, parties) {
-        return Answer::Refused(Refusal::OutOfRange, place);
-    }
-    match r {
-        Record::Heading(_) => Answer::Done,
-        Record::Party(_) => rule::gln_fault(gln, place),
-        Record::FixedHour(_, _) => Answer::Done,
-        Record::Reading(x) => rule::reading_fault(x, hours, place),
-        Record::Price(_, _) => Answer::Done,
-        Record::RefixedHour(_, _) => Answer::Done,
+        Record::Heading(h) => rule::unless(rule::heading_in_range(h), Refusal::OutOfRange, place),
+        Record::Party(share) => rule::party_fault(share, gln, place),
+        Record::FixedHour(hour, f) => rule::unless(
+            rule::hour_in_range(hours, hour, f),
+            Refusal::OutOfRange,
+            place,
+        ),
+        Record::Reading(x) => rule::reading_fault(x, hours, parties, place),
+        Record::Price(hour, p) => rule::unless(
+            rule::price_in_range(hours, hour, p),
+            Refusal::OutOfRange,
+            place,
+        ),
+        Record::RefixedHour(hour, f) => rule::unless(
+            rule::hour_in_range(hours, hour, f),
+            Refusal::OutOfRange,
+            place,
+        ),
         Record::End(_) => Answer::Done,
     }
 }
@@ -189,8 +203,7 @@ pub fn read_alone(part: &[u8]) -> Read
         return Read::Refused(Refusal::FileFault, 0);
     }
     let r = decode(part);
-    let g = gln_in(gln::part_at(part, 1), r);
-    let a = fault(r, g, MOST_HOURS, MOST_PARTIES, 0);
+    let a = fault(r, gln::part_at(part, 1), MOST_HOURS, MOST_PARTIES, 0);
     match a {
         Answer::Done => Read::Given(r),
         Answer::Refused(x, place) => Read::Refused(x, place),

@@ -2,7 +2,7 @@
 use mathlib.Core.Bool.{Bool, true, false, not, _&&_, _||_}
 use mathlib.Core.List.{List}
 use mathlib.Core.Path.{_≡_, refl, sym, _∙_, ap}
-use Prim.Native.Nat.{ℕ, zero, suc, _≤_, _<_}
+use Prim.Native.Nat.{ℕ, _≤_, _<_}
 use native.Mathlib.Omega.{arith}
 use borrow.Author.Tests.{le-leb, lt-leb, eq-eqb, ne-eqb, not-true, not-false, eqb-true}
 use lib.Dec.{eqb, leb}
@@ -10,9 +10,9 @@ use lib.IntN.{ℤ, natAbs}
 use lib.ListN.{length}
 use Rattle.record_service.specs.Plain.{fieldCount, signedPlace, signsFrom, nth, plainRight, plainRecord, plainVerdict}
 use Rattle.record.specs.Record.{recordOf}
-use Rattle.rules.specs.Record.{bodyLength, known, writeVerdict}
+use Rattle.rules.specs.Record.{endKind, bodyLength, known, writeVerdict}
 use Rattle.rules.specs.Refusals.{unknownKind, outOfRange, Answer, refusal, unless, andThen, answer, afterwards}
-use Rattle.rules.specs.Words.{at}
+use Rattle.rules.proofs.EachKind.{kind-is-a-byte}
 use Rattle.rules.proofs.RoundTrip.{both-true}
 use Rattle.record_write.proofs.WriteOne.{Promised}
 
@@ -34,73 +34,57 @@ module _ (kind : ℕ) (numbers : List ℤ) {n : ℕ} (count : n ≡ fieldCount k
     wrong-sign e = rw (lengths, all-signs, not-true b e)
 
     module _ (e : not b ≡ false) where
-      pub no-end : kind ≤ 6 → true ≡ plainRight kind numbers
+      pub no-end : (kind ≡ endKind → ⊥) → true ≡ plainRight kind numbers
       unfolding plainRight
-      no-end h = rw (lengths, all-signs, not-false b e, le-leb kind 6 h)
+      no-end h = rw (lengths, all-signs, not-false b e, ne-eqb kind endKind h)
 
-      pub end-count : 6 < kind → {t : Bool} → t ≡ leb (natAbs (nth numbers 0)) 4294967295 → t ≡ plainRight kind numbers
+      pub end-count : kind ≡ endKind → {t : Bool} → t ≡ leb (natAbs (nth numbers 0)) 4294967295 → t ≡ plainRight kind numbers
       unfolding plainRight
-      end-count h q = q ∙ rw (lengths, all-signs, not-false b e, lt-leb kind 6 h)
+      end-count h q = q ∙ rw (lengths, all-signs, not-false b e, eq-eqb kind endKind h)
 
 pub right-length : (kind : ℕ) (numbers : List ℤ) → plainRight kind numbers ≡ true → length numbers ≡ fieldCount kind
 unfolding plainRight
 right-length kind numbers e =
     eqb-true (length numbers) (fieldCount kind)
     (both-true (eqb (length numbers) (fieldCount kind)) (signsFrom (signedPlace kind) 0 numbers)
-    (both-true (eqb (length numbers) (fieldCount kind) && signsFrom (signedPlace kind) 0 numbers) (leb kind 6 || leb (natAbs (nth numbers 0)) 4294967295) e .0)
+    (both-true (eqb (length numbers) (fieldCount kind) && signsFrom (signedPlace kind) 0 numbers) (not (eqb kind endKind) || leb (natAbs (nth numbers 0)) 4294967295) e .0)
     .0)
 
--- 2: the known kinds are 1 .. 7
-no-kind-zero : (kind : ℕ) → kind < 1 → known kind ≡ false
-unfolding known bodyLength at
-no-kind-zero zero h = refl
-no-kind-zero (suc kind) h = absurd (omega arith)
+-- what a kind has as many numbers as: at the kind itself, its figure
+pub counted : (kind k : ℕ) (numbers : List ℤ) → length numbers ≡ fieldCount kind → kind ≡ k → length numbers ≡ fieldCount k
+counted kind k numbers e is = e ∙ ap fieldCount is
 
-no-kind-above : (kind : ℕ) → 7 < kind → known kind ≡ false
-unfolding known bodyLength at
-no-kind-above zero h = absurd (omega arith)
-no-kind-above (suc zero) h = absurd (omega arith)
-no-kind-above (suc (suc zero)) h = absurd (omega arith)
-no-kind-above (suc (suc (suc zero))) h = absurd (omega arith)
-no-kind-above (suc (suc (suc (suc zero)))) h = absurd (omega arith)
-no-kind-above (suc (suc (suc (suc (suc zero))))) h = absurd (omega arith)
-no-kind-above (suc (suc (suc (suc (suc (suc zero)))))) h = absurd (omega arith)
-no-kind-above (suc (suc (suc (suc (suc (suc (suc zero))))))) h = absurd (omega arith)
-no-kind-above (suc (suc (suc (suc (suc (suc (suc (suc kind)))))))) h = refl
+-- 2: a kind is one byte, and a known one has a body
+known-by : (kind : ℕ) (t : Bool) → known kind ≡ t → (known kind ≡ true → ⊥) → known kind ≡ false
+known-by kind true e h = absurd (h e)
+known-by kind false e h = e
 
-one-to-seven : (kind : ℕ) → 1 ≤ kind → kind ≤ 7 → known kind ≡ true
-unfolding known bodyLength at
-one-to-seven zero l h = absurd (omega arith)
-one-to-seven (suc zero) l h = refl
-one-to-seven (suc (suc zero)) l h = refl
-one-to-seven (suc (suc (suc zero))) l h = refl
-one-to-seven (suc (suc (suc (suc zero)))) l h = refl
-one-to-seven (suc (suc (suc (suc (suc zero))))) l h = refl
-one-to-seven (suc (suc (suc (suc (suc (suc zero)))))) l h = refl
-one-to-seven (suc (suc (suc (suc (suc (suc (suc zero))))))) l h = refl
-one-to-seven (suc (suc (suc (suc (suc (suc (suc (suc kind)))))))) l h = absurd (omega arith)
+pub no-kind-above : (kind : ℕ) → 255 < kind → known kind ≡ false
+no-kind-above kind h = known-by kind (known kind) refl (λ e. omega (arith, kind-is-a-byte kind e))
+
+pub no-body : (kind : ℕ) → bodyLength kind < 1 → known kind ≡ false
+unfolding known
+no-body kind h = lt-leb 1 (bodyLength kind) h
+
+pub has-body : (kind : ℕ) → 1 ≤ bodyLength kind → known kind ≡ true
+unfolding known
+has-body kind h = le-leb 1 (bodyLength kind) h
 
 -- THE WHOLE VERDICT
 module _ (kind : ℕ) (numbers : List ℤ) (gln out : List ℕ) where
   abbrev PlainPromised : Answer ℕ → List ℕ → Type 0
   PlainPromised a after = Promised (recordOf gln (plainRecord kind numbers)) out (plainVerdict kind numbers gln (length out)) a after
 
-  unknown : known kind ≡ false → PlainPromised (refusal unknownKind 0) out
+  pub unknown : known kind ≡ false → PlainPromised (refusal unknownKind 0) out
   unfolding plainVerdict andThen unless answer afterwards
   unknown e = rw e (refl, refl)
 
-  pub unknown-zero : kind < 1 → PlainPromised (refusal unknownKind 0) out
-  unknown-zero h = unknown (no-kind-zero kind h)
-
-  pub unknown-above : 7 < kind → PlainPromised (refusal unknownKind 0) out
-  unknown-above h = unknown (no-kind-above kind h)
-
-  module _ (low : 1 ≤ kind) (high : kind ≤ 7) {b : Bool} (list : b ≡ plainRight kind numbers) where
+  module _ (has : known kind ≡ true) {b : Bool} (list : b ≡ plainRight kind numbers) where
     pub wrong-list : not b ≡ true → PlainPromised (refusal outOfRange 0) out
     unfolding plainVerdict andThen unless answer afterwards
-    wrong-list e = rw (one-to-seven kind low high, ← list, not-true b e) (refl, refl)
+    wrong-list e = rw (has, ← list, not-true b e) (refl, refl)
 
     pub written-plain : not b ≡ false → {a : Answer ℕ} {after : List ℕ}
         → Promised (recordOf gln (plainRecord kind numbers)) out (writeVerdict (recordOf gln (plainRecord kind numbers)) (length out)) a after → PlainPromised a after
     unfolding plainVerdict andThen unless
-    written-plain e h = rw (one-to-seven kind low high, ← list, not-false b e) h
+    written-plain e h = rw (has, ← list, not-false b e) h

@@ -1,6 +1,6 @@
--- A record given as a kind and a list of numbers, for C and for tests (01 "The record writer"): the kind may be unknown (2), the list may have another
+-- A record given as a kind and a list of numbers, for tests (01 "The record writer"): the kind may be unknown (2), the list may have another
 -- length than the kind has fields, and a number may be one that its field can not hold (4, or 11 of a and b, or 12 of E).
-use mathlib.Core.Bool.{Bool, true, cond, _&&_, _||_}
+use mathlib.Core.Bool.{Bool, true, cond, not, _&&_, _||_}
 use mathlib.Core.List.{List, [], _∷_}
 use Prim.Native.Nat.{ℕ, suc}
 use lib.Dec.{eqb, leb}
@@ -13,16 +13,16 @@ use Rattle.record.specs.declared.Flows as CFlows
 use Rattle.record.specs.declared.Reading as CReading
 use Rattle.record.specs.declared.Record.{Record}
 use Rattle.record.specs.declared.Record.the-variants.{Heading, Party, FixedHour, Reading, Price, RefixedHour, End}
-use Rattle.rules.specs.Record.{known, writeVerdict}
+use Rattle.rules.specs.Record.{headingKind, partyKind, fixedHourKind, readingKind, priceKind, refixedHourKind, endKind, fieldWidths, known, writeVerdict}
 use Rattle.rules.specs.Refusals.{unknownKind, outOfRange, Verdict, unless, andThen}
-use Rattle.rules.specs.Words.{at}
 
--- how many numbers a kind has (a party's GLN stands beside them), and the place of the one that may be negative, past the end where there is none
+-- how many numbers a kind has: one for each field, but none for a party's GLN, which stands beside them
 unfoldable pub fieldCount : ℕ → ℕ
-fieldCount kind = at (0 ∷ 6 ∷ 1 ∷ 6 ∷ 4 ∷ 2 ∷ 6 ∷ 1 ∷ []) kind
+fieldCount kind = cond (eqb kind partyKind) 1 (length (fieldWidths kind))
 
+-- the place of the number that may be negative, an hour's net supply or the price; past the last place of the longest list where there is none
 unfoldable pub signedPlace : ℕ → ℕ
-signedPlace kind = at (6 ∷ 6 ∷ 6 ∷ 2 ∷ 6 ∷ 1 ∷ 2 ∷ 6 ∷ []) kind
+signedPlace kind = cond (eqb kind fixedHourKind) 2 (cond (eqb kind refixedHourKind) 2 (cond (eqb kind priceKind) 1 6))
 
 -- every number from place i on is 0 or more, but for the one that may be negative
 unfoldable pub signsFrom : ℕ → ℕ → List ℤ → Bool
@@ -36,7 +36,7 @@ nth numbers k = getD numbers k (pos 0)
 unfoldable pub plainRight : ℕ → List ℤ → Bool
 plainRight kind numbers =
     eqb (length numbers) (fieldCount kind) && signsFrom (signedPlace kind) 0 numbers
-    && (leb kind 6 || leb (natAbs (nth numbers 0)) 4294967295)
+    && (not (eqb kind endKind) || leb (natAbs (nth numbers 0)) 4294967295)
 
 -- the nearest number of 0 .. most: one outside its range stays outside, since every range ends below what its field can hold
 unfoldable pub heldIn : ℕ → ℤ → ℕ
@@ -57,14 +57,15 @@ plainFlows l =
 abbrev pub plainReading : List ℤ → CReading.Reading
 plainReading l = record { party = held 255 l 0; a = held 65535 l 1; b = held 65535 l 2; «e_wh» = held 4294967295 l 3 }
 
+-- the record of a kind and its numbers; the kind that is none of the others is the end (an unknown one is refused first)
 unfoldable pub plainRecord : ℕ → List ℤ → Record
 plainRecord kind l =
-    cond (eqb kind 1) (Heading (plainHeading l))
-    (cond (eqb kind 2) (Party (held 18446744073709551615 l 0))
-    (cond (eqb kind 3) (FixedHour (held 65535 l 0) (plainFlows l))
-    (cond (eqb kind 4) (Reading (plainReading l))
-    (cond (eqb kind 5) (Price (held 65535 l 0) (nth l 1))
-    (cond (eqb kind 6) (RefixedHour (held 65535 l 0) (plainFlows l)) (End (held 4294967295 l 0)))))))
+    cond (eqb kind headingKind) (Heading (plainHeading l))
+    (cond (eqb kind partyKind) (Party (held 18446744073709551615 l 0))
+    (cond (eqb kind fixedHourKind) (FixedHour (held 65535 l 0) (plainFlows l))
+    (cond (eqb kind readingKind) (Reading (plainReading l))
+    (cond (eqb kind priceKind) (Price (held 65535 l 0) (nth l 1))
+    (cond (eqb kind refixedHourKind) (RefixedHour (held 65535 l 0) (plainFlows l)) (End (held 4294967295 l 0)))))))
 
 -- 2, then 4 of the list, then the writer's own
 unfoldable pub plainVerdict : ℕ → List ℤ → List ℕ → ℕ → Verdict

@@ -1,9 +1,10 @@
-// The record writer with the kind as a number and the fields as a list of numbers (01 "The month file", "The record writer"), for C and for tests.
+// The record writer with the kind as a number and the fields as a list of numbers (01 "The month file", "The record writer"), for tests: `record_cases` calls it.
 use answer::Refusal;
 use record::Flows;
 use record::Heading;
 use record::Reading;
 use record::Record;
+use record::kind;
 use record_write::Written;
 ghost use mathlib.Core.Path.{_≡_};
 ghost use lib.Dec.{leb};
@@ -14,28 +15,39 @@ ghost use lib.ListN.{length};
 ghost use Rattle.record_service.specs.Plain.{fieldCount, signedPlace, signsFrom, plainRight, held, plainHeading, plainFlows, plainReading, plainRecord, plainVerdict};
 ghost use Rattle.record.specs.Record.{recordOf};
 ghost use Rattle.record_write.specs.Writing.{wrote};
-ghost use Rattle.rules.specs.Record.{recordBytes, written};
+ghost use mathlib.Core.Bool.{true};
+ghost use Rattle.rules.specs.Record.{known, recordBytes, written};
 ghost use Rattle.rules.specs.Refusals.{afterwards, answer};
 
-// How many numbers each kind has, and the place of the one that may be negative: 6, past all of them, where there is none.
-const COUNTS: [usize; 8] = [0, 6, 1, 6, 4, 2, 6, 1];
+// Where no number of a kind may be negative: past the last place of the longest list.
+const NOWHERE: usize = 6;
 
-const SIGNED: [usize; 8] = [6, 6, 6, 2, 6, 1, 2, 6];
-
-fn field_count(kind: u64) -> usize
-    requires { ⌜ kind ≤ 7 ⌝ }
-    ensures { λ n. ⌜ n ≡ fieldCount kind ⌝ }
+// How many numbers a kind has: one for each field, but none for a party's GLN, which stands beside them.
+fn field_count(sort: u8) -> usize
+    requires { ⌜ known sort ≡ true ⌝ }
+    ensures { λ n. ⌜ n ≡ fieldCount sort ⌝ }
 {
-    let k = kind as usize;
-    COUNTS[k]
+    match sort {
+        kind::HEADING => 6,
+        kind::PARTY => 1,
+        kind::FIXED_HOUR => 6,
+        kind::READING => 4,
+        kind::PRICE => 2,
+        kind::REFIXED_HOUR => 6,
+        _ => 1,
+    }
 }
 
-fn signed_place(kind: u64) -> usize
-    requires { ⌜ kind ≤ 7 ⌝ }
-    ensures { λ n. ⌜ n ≡ signedPlace kind ⌝ }
+// The place of the number that may be negative: an hour's net supply, and the price.
+fn signed_place(sort: u8) -> usize
+    ensures { λ n. ⌜ n ≡ signedPlace sort ⌝ }
 {
-    let k = kind as usize;
-    SIGNED[k]
+    match sort {
+        kind::FIXED_HOUR => 2,
+        kind::REFIXED_HOUR => 2,
+        kind::PRICE => 1,
+        _ => NOWHERE,
+    }
 }
 
 fn not_negative(z: i64) -> bool
@@ -150,33 +162,33 @@ fn reading_of(numbers: &[i64]) -> Reading
 }
 
 // The record of a kind and as many numbers as it has.
-fn record_of(kind: u64, numbers: &[i64]) -> Record
-    requires { ⌜ (1 ≤ kind) × (kind ≤ 7) × (length (now numbers) ≡ fieldCount kind) ⌝ }
-    ensures { λ r. ⌜ r ≡ plainRecord kind (now (numbers .entry)) ⌝ }
+fn record_of(sort: u8, numbers: &[i64]) -> Record
+    requires { ⌜ (known sort ≡ true) × (length (now numbers) ≡ fieldCount sort) ⌝ }
+    ensures { λ r. ⌜ r ≡ plainRecord sort (now (numbers .entry)) ⌝ }
 {
-    match kind {
-        1 => Record::Heading(heading_of(numbers)),
-        2 => Record::Party(u64_of(numbers, 0)),
-        3 => Record::FixedHour(u16_of(numbers, 0), flows_of(numbers)),
-        4 => Record::Reading(reading_of(numbers)),
-        5 => Record::Price(u16_of(numbers, 0), numbers[1]),
-        6 => Record::RefixedHour(u16_of(numbers, 0), flows_of(numbers)),
+    match sort {
+        kind::HEADING => Record::Heading(heading_of(numbers)),
+        kind::PARTY => Record::Party(u64_of(numbers, 0)),
+        kind::FIXED_HOUR => Record::FixedHour(u16_of(numbers, 0), flows_of(numbers)),
+        kind::READING => Record::Reading(reading_of(numbers)),
+        kind::PRICE => Record::Price(u16_of(numbers, 0), numbers[1]),
+        kind::REFIXED_HOUR => Record::RefixedHour(u16_of(numbers, 0), flows_of(numbers)),
         _ => Record::End(u32_of(numbers, 0)),
     }
 }
 
 // 4 of the list: another length, a negative number in an unsigned field, an end count beyond its four bytes.
-fn list_right(kind: u64, numbers: &[i64]) -> bool
-    requires { ⌜ (1 ≤ kind) × (kind ≤ 7) ⌝ }
-    ensures { λ b. ⌜ b ≡ plainRight kind (now (numbers .entry)) ⌝ }
+fn list_right(sort: u8, numbers: &[i64]) -> bool
+    requires { ⌜ known sort ≡ true ⌝ }
+    ensures { λ b. ⌜ b ≡ plainRight sort (now (numbers .entry)) ⌝ }
 {
-    if numbers.len() != field_count(kind) {
+    if numbers.len() != field_count(sort) {
         return false;
     }
-    if !signs_right(numbers, signed_place(kind)) {
+    if !signs_right(numbers, signed_place(sort)) {
         return false;
     }
-    if kind <= 6 {
+    if sort != kind::END {
         return true;
     }
     not_above_end(numbers[0])
@@ -188,15 +200,16 @@ pub fn write_plain(kind: u64, numbers: &[i64], gln: &[u8], out: &mut [u8]) -> Wr
     ensures answer { λ w. ⌜ wrote w ≡ answer (plainVerdict kind (now (numbers .entry)) (now (gln .entry)) (length (now (out .entry)))) (length (recordBytes (recordOf (now (gln .entry)) (plainRecord kind (now (numbers .entry)))))) ⌝ }
     ensures contents { λ w. ⌜ now (out .exit) ≡ afterwards (plainVerdict kind (now (numbers .entry)) (now (gln .entry)) (length (now (out .entry)))) (written (recordOf (now (gln .entry)) (plainRecord kind (now (numbers .entry)))) (now (out .entry))) (now (out .entry)) ⌝ }
 {
-    if kind < 1 {
+    if 255 < kind {
         return Written::Refused(Refusal::UnknownKind, 0);
     }
-    if 7 < kind {
+    let sort = kind as u8;
+    if record::body_length(sort) < 1 {
         return Written::Refused(Refusal::UnknownKind, 0);
     }
-    if !list_right(kind, numbers) {
+    if !list_right(sort, numbers) {
         return Written::Refused(Refusal::OutOfRange, 0);
     }
-    let r = record_of(kind, numbers);
+    let r = record_of(sort, numbers);
     record_write::write(r, gln, out)
 }

@@ -1,6 +1,6 @@
 -- A record's bytes are its fields glued together, each in its width, after its kind.
-use mathlib.Core.List.{List, [], _∷_, _++_, append-assoc, append-nil}
-use mathlib.Core.Path.{_≡_, _∙_, ap}
+use mathlib.Core.List.{List, [], _∷_, _++_, append-nil}
+use mathlib.Core.Path.{_≡_, sym, _∙_, ap}
 use Prim.Native.Nat.{ℕ, _%_, _<_}
 use native.Mathlib.Omega.{arith}
 use lib.IntN.{ℤ}
@@ -10,10 +10,19 @@ use mir.Facts.{toZ-ofZ}
 use mir.Syntax.{w64}
 use mir.Val.{SFits, toZ, ofZ}
 use Rattle.record_write.specs.Fields.{glue, uncomplemented}
+use Rattle.record_write.specs.Writing.{hourBytes}
 use Rattle.rules.specs.Flows.{Flows}
-use Rattle.rules.specs.Record.{Heading, Reading, heading, party, reading, price, end, bytesOf, recordBytes, flowsBytes}
+use Rattle.rules.specs.Limits.{glnDigits}
+use Rattle.rules.specs.Record.{headingKind, partyKind, readingKind, priceKind, endKind, layouts, widthsIn, fieldWidths, Heading, Reading, heading, party, reading, price, end}
+use Rattle.rules.specs.Record.{bytesOf, fieldBytes, inWidths, hourFields, fieldsOf, recordBytes}
+use Rattle.rules.specs.Words.{joined}
 use Rattle.rules.proofs.Lines.{sets-append}
 use Rattle.record_write.proofs.Complement.{unsigned-4, unsigned-8}
+
+-- To unfold this name is to unfold all that a record's bytes are computed by, and no more is meant by it.
+unfoldable pub record-bytes : Unit {0}
+unfolding recordBytes fieldWidths layouts widthsIn fieldsOf hourFields inWidths fieldBytes joined hourBytes
+record-bytes = tt
 
 -- one byte stands for itself
 one-byte : (k : ℕ) → k < 256 → bytesOf 1 k ≡ k ∷ []
@@ -25,34 +34,36 @@ after-kind : (k : ℕ) → k < 256 → (rest : List ℕ) → bytesOf 1 k ++ rest
 after-kind k h rest = ap (λ (l : List ℕ). l ++ rest) (one-byte k h)
 
 pub heading-glued : (h : Heading)
-    → glue (1 ∷ 2 ∷ 2 ∷ 1 ∷ 2 ∷ 1 ∷ 1 ∷ []) (1 ∷ h .area ∷ h .year ∷ h .month ∷ h .hours ∷ h .parties ∷ h .carrier ∷ []) ≡ recordBytes (heading h)
-unfolding glue recordBytes
-heading-glued h = after-kind 1 (omega arith) _ ∙ simp (append-assoc, append-nil)
+    → glue (1 ∷ 2 ∷ 2 ∷ 1 ∷ 2 ∷ 1 ∷ 1 ∷ []) (headingKind ∷ h .area ∷ h .year ∷ h .month ∷ h .hours ∷ h .parties ∷ h .carrier ∷ []) ≡ recordBytes (heading h)
+unfolding glue record-bytes
+heading-glued h = after-kind headingKind (omega arith) _
 
 pub hour-glued : (k : ℕ) → k < 256 → (hour : ℕ) (f : Flows) → SFits w64 (f .net) → {u : ℕ} → u ≡ uncomplemented 18446744073709551615 (toZ w64 (ofZ w64 (f .net)))
-    → glue (1 ∷ 2 ∷ 1 ∷ 8 ∷ 8 ∷ 8 ∷ 8 ∷ []) (k ∷ hour ∷ f .status ∷ u ∷ f .production ∷ f .hourly ∷ f .flex ∷ []) ≡ k ∷ flowsBytes hour f
-unfolding glue flowsBytes
+    → glue (1 ∷ 2 ∷ 1 ∷ 8 ∷ 8 ∷ 8 ∷ 8 ∷ []) (k ∷ hour ∷ f .status ∷ u ∷ f .production ∷ f .hourly ∷ f .flex ∷ []) ≡ k ∷ hourBytes hour f
+unfolding glue record-bytes
 hour-glued k b hour f s e =
-    rw (e, toZ-ofZ s, unsigned-8 (f .net)) (after-kind k b _ ∙ simp (append-assoc, append-nil))
+    rw (e, toZ-ofZ s, unsigned-8 (f .net)) (after-kind k b _)
 
-pub reading-glued : (r : Reading) → glue (1 ∷ 1 ∷ 2 ∷ 2 ∷ 4 ∷ []) (4 ∷ r .party ∷ r .a ∷ r .b ∷ r .e ∷ []) ≡ recordBytes (reading r)
-unfolding glue recordBytes
-reading-glued r = after-kind 4 (omega arith) _ ∙ simp (append-assoc, append-nil)
+pub reading-glued : (r : Reading) → glue (1 ∷ 1 ∷ 2 ∷ 2 ∷ 4 ∷ []) (readingKind ∷ r .party ∷ r .a ∷ r .b ∷ r .e ∷ []) ≡ recordBytes (reading r)
+unfolding glue record-bytes
+reading-glued r = after-kind readingKind (omega arith) _
 
 pub price-glued : (hour : ℕ) (p : ℤ) → SFits w64 p → {u : ℕ} → u ≡ uncomplemented 4294967295 (toZ w64 (ofZ w64 p))
-    → glue (1 ∷ 2 ∷ 4 ∷ []) (5 ∷ hour ∷ u ∷ []) ≡ recordBytes (price hour p)
-unfolding glue recordBytes
-price-glued hour p s e = rw (e, toZ-ofZ s, unsigned-4 p) (after-kind 5 (omega arith) _ ∙ simp append-nil)
+    → glue (1 ∷ 2 ∷ 4 ∷ []) (priceKind ∷ hour ∷ u ∷ []) ≡ recordBytes (price hour p)
+unfolding glue record-bytes
+price-glued hour p s e = rw (e, toZ-ofZ s, unsigned-4 p) (after-kind priceKind (omega arith) _)
 
-pub end-glued : (count : ℕ) → glue (1 ∷ 4 ∷ []) (7 ∷ count ∷ []) ≡ recordBytes (end count)
-unfolding glue recordBytes
-end-glued count = after-kind 7 (omega arith) _ ∙ simp append-nil
+pub end-glued : (count : ℕ) → glue (1 ∷ 4 ∷ []) (endKind ∷ count ∷ []) ≡ recordBytes (end count)
+unfolding glue record-bytes
+end-glued count = after-kind endKind (omega arith) _
 
 -- a party's bytes, in three goes
-pub party-put : (gln : List ℕ) (share : ℕ) → length gln ≡ 13 → (d : List ℕ) {a b c : List ℕ} → a ≡ sets d 0 (bytesOf 1 2) → b ≡ sets a 1 gln → c ≡ sets b 14 (bytesOf 8 share)
+pub party-put : (gln : List ℕ) (share : ℕ) → length gln ≡ glnDigits → (d : List ℕ) {a b c : List ℕ} → a ≡ sets d 0 (bytesOf 1 partyKind) → b ≡ sets a 1 gln → c ≡ sets b 14 (bytesOf 8 share)
     → c ≡ sets d 0 (recordBytes (party (record { gln = gln; share = share })))
-unfolding recordBytes
+unfolding record-bytes
 party-put gln share e d {a} {b} {c} p q r =
-    r ∙ ap (λ (l : List ℕ). sets l 14 (bytesOf 8 share)) (q ∙ ap (λ (l : List ℕ). sets l 1 gln) (p ∙ ap (sets d 0) (one-byte 2 (omega arith))))
-    ∙ ap (λ (k : ℕ). sets (sets (sets d 0 (2 ∷ [])) 1 gln) k (bytesOf 8 share)) (omega (arith, e))
-    ∙ (sets-append (sets d 0 (2 ∷ [])) 1 gln (bytesOf 8 share))
+    let kind = p ∙ ap (sets d 0) (one-byte partyKind (omega arith)) in
+    r ∙ ap (λ (l : List ℕ). sets l 14 (bytesOf 8 share)) (q ∙ ap (λ (l : List ℕ). sets l 1 gln) kind)
+    ∙ ap (λ (k : ℕ). sets (sets (sets d 0 (partyKind ∷ [])) 1 gln) k (bytesOf 8 share)) (omega (arith, e))
+    ∙ sets-append (sets d 0 (partyKind ∷ [])) 1 gln (bytesOf 8 share)
+    ∙ ap (λ (l : List ℕ). sets d 0 (partyKind ∷ (gln ++ l))) (sym (append-nil (bytesOf 8 share)))

@@ -14,7 +14,7 @@ use Rattle.record.specs.declared.Read.the-variants.{Given}
 use Rattle.record.specs.declared.Record as Code′
 use Rattle.record_write.specs.declared.Written as Code″
 use Rattle.record_write.specs.declared.Written.the-variants.{Bytes}
-use Rattle.rules.specs.Record.{Record, bodyLength, kindAt, fieldChecks, recordBytes, readAlone, writeVerdict, written}
+use Rattle.rules.specs.Record.{Record, bodyLength, kindAt, recordBytes, alone, checks, readAlone, writeVerdict, written}
 use Rattle.rules.specs.Refusals.{Verdict, accepted, given, unless, andThen, first, answer, afterwards}
 use Rattle.rules.proofs.Refusals.{both-accept}
 use Rattle.rules.proofs.RoundTrip as R
@@ -29,7 +29,7 @@ module _ (gln : List ℕ) (r : Code′.Record) (out after : List ℕ) (w : Code�
   unfolding afterwards written
   read-what-was-written n e held found promise =
       let verdict : writeVerdict (recordOf gln r) (length out) ≡ accepted = R.given-by _ _ n (sym answered ∙ ap wrote e) .0 in
-      let checked : first (fieldChecks 745 64 (recordOf gln r) 0) ≡ accepted = both-accept _ _ (sym (verdict-is (recordOf gln r) out) ∙ verdict) .0 in
+      let checked : first (checks alone (recordOf gln r)) ≡ accepted = both-accept _ _ (sym (verdict-is (recordOf gln r) out) ∙ verdict) .0 in
       let bytes : after ≡ recordBytes (recordOf gln r) ++ drop (length (recordBytes (recordOf gln r))) out = contents ∙ ap (λ (v : Verdict). afterwards v (written (recordOf gln r) out) out) verdict in
       promise ∙ ap readAlone bytes ∙ R.read-of-written (recordOf gln r) (drop (length (recordBytes (recordOf gln r))) out) held checked
 

@@ -1,6 +1,5 @@
 -- Writing one record: a record without fault has the length that its kind says, so the code's test of the part's length is the rules' 16, and what is set
 -- at the part's start is the record's bytes with the rest of the part after them.
-use mathlib.Core.Bool.{true, _&&_}
 use mathlib.Core.List.{List, [], _∷_, _++_}
 use mathlib.Core.Path.{_≡_, refl, sym, _∙_, ap}
 use Prim.Native.Nat.{ℕ, _+_, _≤_, _<_}
@@ -16,20 +15,20 @@ use Rattle.answer.specs.Said.{named, said}
 use Rattle.answer.specs.declared.Answer as A
 use Rattle.answer.specs.declared.Answer.the-variants.{Done, Refused}
 use Rattle.answer.specs.declared.Refusal as A′
-use Rattle.gln.specs.declared.Gln.{Gln}
-use Rattle.record.specs.Record.{recordOf, glnIn, faultOf}
+use Rattle.record.specs.Record.{recordOf, faultOf}
 use Rattle.record_write.specs.Writing.{kindOf, Writable, roomFor}
 use Rattle.record.specs.declared.Record as C
 use Rattle.record.specs.declared.Record.the-variants.{Heading, Party, FixedHour, Reading, Price, RefixedHour, End}
-use Rattle.rules.specs.Record.{Record, bodyLength, fieldChecks, recordBytes, inRange, glnRight, writeVerdict, written}
+use Rattle.rules.specs.Limits.{mostHours, mostParties, greatestPrice, glnDigits}
+use Rattle.rules.specs.Record as RRecord
+use Rattle.rules.specs.Record.{Record, bodyLength, recordBytes, alone, checks, writeVerdict, written}
 use Rattle.rules.specs.Refusals.{Verdict, accepted, refused, wrongLength, Answer, given, refusal, unless, andThen, first, answer, afterwards}
 use Rattle.rules.specs.Words.{withinℤ}
 use Rattle.rules.proofs.Refusals.{first-append}
 use Rattle.rules.proofs.RoundTrip as R
-use Rattle.record.proofs.Judging.{fault-is}
 
 -- the code's kind is the rules'
-kind-same : (gln : List ℕ) (r : C.Record) → R.kindOf (recordOf gln r) ≡ kindOf r
+kind-same : (gln : List ℕ) (r : C.Record) → RRecord.kindOf (recordOf gln r) ≡ kindOf r
 kind-same gln (Heading h) = refl
 kind-same gln (Party share) = refl
 kind-same gln (FixedHour hour f) = refl
@@ -38,24 +37,25 @@ kind-same gln (Price hour p) = refl
 kind-same gln (RefixedHour hour f) = refl
 kind-same gln (End count) = refl
 
-module _ (gln : List ℕ) (r : C.Record) (e : first (fieldChecks 745 64 (recordOf gln r) 0) ≡ accepted) where
+module _ (gln : List ℕ) (r : C.Record) (e : first (checks alone (recordOf gln r)) ≡ accepted) where
   pub size-is : length (recordBytes (recordOf gln r)) ≡ 1 + bodyLength (kindOf r)
-  size-is = R.record-length (recordOf gln r) (R.sound (recordOf gln r) e .gln) ∙ ap (λ (k : ℕ). 1 + bodyLength k) (kind-same gln r)
+  size-is = R.record-length (recordOf gln r) e ∙ ap (λ (k : ℕ). 1 + bodyLength k) (kind-same gln r)
 
 -- what writing asks of the part and of the fields, by kind
 module _ {gln : List ℕ} {r : C.Record} {out : List ℕ} (w : Writable gln r out) where
   pub room-of : (k : ℕ) → kindOf r ≡ k → 1 + bodyLength k ≤ length out
   room-of k e = let s : 1 + bodyLength (kindOf r) ≤ length out = omega (arith, size-is gln r (w .sound), w .room) in rw e at s
 
-  pub gln-whole : {share : ℕ} → r ≡ Party share → length gln ≡ 13
-  unfolding glnRight
-  gln-whole e = R.valid-length gln (rw e at (R.sound (recordOf gln r) (w .sound) .gln))
+  pub gln-whole : {share : ℕ} → r ≡ Party share → length gln ≡ glnDigits
+  gln-whole {share} e =
+      let sound : first (checks alone (recordOf gln (Party share))) ≡ accepted = rw e at (w .sound) in
+      R.valid-length gln (R.valid-gln gln share (R.none-refuses (recordOf gln (Party share)) sound))
 
   pub price-small : {hour : ℕ} {p : ℤ} → r ≡ Price hour p → mag p ≤ 4294967295
-  unfolding inRange
   price-small {hour} {p} e =
-      let range : ltb hour 745 && withinℤ 5000000 p ≡ true = rw e at (R.sound (recordOf gln r) (w .sound) .range) in
-      let small : mag p ≤ 5000000 = R.within-size 4999999 p (R.both-true (ltb hour 745) (withinℤ 5000000 p) range .1) in
+      let sound : first (checks alone (recordOf gln (Price hour p))) ≡ accepted = rw e at (w .sound) in
+      let range = R.price-range hour p (R.none-refuses (recordOf gln (Price hour p)) sound) in
+      let small : mag p ≤ greatestPrice = R.price-size p (R.both-true (ltb hour mostHours) (withinℤ greatestPrice p) range .1) in
       omega arith
 
 -- what is set at the start of a part that has room
@@ -68,7 +68,7 @@ abbrev pub Promised : Record → List ℕ → Verdict → Answer ℕ → List �
 Promised r out v a after = (a ≡ answer v (length (recordBytes r))) × (after ≡ afterwards v (written r out) out)
 
 -- 16, or the bytes
-module _ (gln : List ℕ) (r : C.Record) (out : List ℕ) (e : first (fieldChecks 745 64 (recordOf gln r) 0) ≡ accepted) where
+module _ (gln : List ℕ) (r : C.Record) (out : List ℕ) (e : first (checks alone (recordOf gln r)) ≡ accepted) where
   pub too-short : length out < 1 + bodyLength (kindOf r) → Promised (recordOf gln r) out (roomFor (recordOf gln r) out) (refusal wrongLength 0) out
   unfolding roomFor unless answer afterwards
   too-short h =
@@ -87,17 +87,18 @@ unfolding andThen
 then-room accepted = refl
 then-room (refused r place) = refl
 
-pub verdict-is : (r : Record) (out : List ℕ) → writeVerdict r (length out) ≡ andThen (first (fieldChecks 745 64 r 0)) (roomFor r out)
+pub verdict-is : (r : Record) (out : List ℕ) → writeVerdict r (length out) ≡ andThen (first (checks alone r)) (roomFor r out)
 unfolding writeVerdict roomFor first
 verdict-is r out =
-    first-append (fieldChecks 745 64 r 0) (unless (leb (length (recordBytes r)) (length out)) wrongLength 0 ∷ [])
-    ∙ ap (andThen (first (fieldChecks 745 64 r 0))) (then-room (unless (leb (length (recordBytes r)) (length out)) wrongLength 0))
+    first-append (checks alone r) (unless (leb (length (recordBytes r)) (length out)) wrongLength 0 ∷ [])
+    ∙ ap (andThen (first (checks alone r))) (then-room (unless (leb (length (recordBytes r)) (length out)) wrongLength 0))
 
-module _ (gln : List ℕ) (r : C.Record) (out : List ℕ) {g : Gln} (tested : g ≡ glnIn gln r) (a : A.Answer) (fault : said a ≡ faultOf 745 64 r g 0) where
-  checked : said a ≡ first (fieldChecks 745 64 (recordOf gln r) 0)
-  checked = fault ∙ ap (λ (x : Gln). faultOf 745 64 r x 0) tested ∙ fault-is 745 64 gln r 0
+module _ (gln : List ℕ) (r : C.Record) (out : List ℕ) (a : A.Answer) (fault : said a ≡ faultOf mostHours mostParties gln r 0) where
+  checked : said a ≡ first (checks alone (recordOf gln r))
+  unfolding faultOf
+  checked = fault
 
-  pub no-fault : a ≡ Done → first (fieldChecks 745 64 (recordOf gln r) 0) ≡ accepted
+  pub no-fault : a ≡ Done → first (checks alone (recordOf gln r)) ≡ accepted
   no-fault e = sym checked ∙ ap said e
 
   verdict-by : writeVerdict (recordOf gln r) (length out) ≡ andThen (said a) (roomFor (recordOf gln r) out)

@@ -12,6 +12,7 @@ use record::Reading;
 use record::Record;
 use record::TOP_4;
 use record::TOP_8;
+use record::kind;
 ghost use mathlib.Core.Path.{_≡_};
 ghost use mathlib.Core.List.{_∷_};
 ghost use Prim.Native.Nat.{_≤_};
@@ -19,9 +20,21 @@ ghost use lib.ListN.{length};
 ghost use lib.Seq.{sets};
 ghost use lib.Signed.{mag};
 ghost use Rattle.record.specs.Record.{recordOf, headingOf, flowsOf, readingOf};
-ghost use Rattle.record_write.specs.Writing.{wrote, kindOf, Writable, roomFor};
-ghost use Rattle.rules.specs.Record.{heading, reading, price, end, flowsBytes, fieldChecks, recordBytes, writeVerdict, written};
+ghost use Rattle.record_write.specs.Writing.{wrote, kindOf, hourBytes, Writable, roomFor};
+ghost use Rattle.rules.specs.Limits.{glnDigits};
+ghost use Rattle.rules.specs.Record.{heading, reading, price, end, recordBytes, alone, checks, writeVerdict, written};
 ghost use Rattle.rules.specs.Refusals.{accepted, first, afterwards, answer};
+
+// The kinds as the numbers that are written.
+const HEADING: u64 = kind::HEADING as u64;
+
+const PARTY: u64 = kind::PARTY as u64;
+
+const READING: u64 = kind::READING as u64;
+
+const PRICE: u64 = kind::PRICE as u64;
+
+const END: u64 = kind::END as u64;
 
 // What writing one record gives: the number of bytes, or the refusal.
 pub enum Written {
@@ -34,13 +47,13 @@ fn kind_of(r: Record) -> u8
     ensures { λ k. ⌜ k ≡ kindOf r ⌝ }
 {
     match r {
-        Record::Heading(_) => 1,
-        Record::Party(_) => 2,
-        Record::FixedHour(_, _) => 3,
-        Record::Reading(_) => 4,
-        Record::Price(_, _) => 5,
-        Record::RefixedHour(_, _) => 6,
-        Record::End(_) => 7,
+        Record::Heading(_) => kind::HEADING,
+        Record::Party(_) => kind::PARTY,
+        Record::FixedHour(_, _) => kind::FIXED_HOUR,
+        Record::Reading(_) => kind::READING,
+        Record::Price(_, _) => kind::PRICE,
+        Record::RefixedHour(_, _) => kind::REFIXED_HOUR,
+        Record::End(_) => kind::END,
     }
 }
 
@@ -51,7 +64,7 @@ fn put_heading(h: Heading, out: &mut [u8])
 {
     let widths = [1usize, 2, 2, 1, 2, 1, 1];
     let values = [
-        1u64,
+        HEADING,
         h.area as u64,
         h.year as u64,
         h.month as u64,
@@ -63,21 +76,21 @@ fn put_heading(h: Heading, out: &mut [u8])
 }
 
 fn put_party(gln: &[u8], share: u64, out: &mut [u8])
-    requires { ⌜ (length (now gln) ≡ 13) × (22 ≤ length (now out)) ⌝ }
+    requires { ⌜ (length (now gln) ≡ glnDigits) × (22 ≤ length (now out)) ⌝ }
     ensures { λ r. ⌜ now (out .exit) ≡ sets (now (out .entry)) 0 (recordBytes (recordOf (now (gln .entry)) (Record.Party share))) ⌝ }
 {
-    fields::put_number(out, 0, 1, 2);
+    fields::put_number(out, 0, 1, PARTY);
     fields::put_bytes(out, 1, gln);
     fields::put_number(out, 14, 8, share);
 }
 
-fn put_hour(kind: u8, hour: u16, f: Flows, out: &mut [u8])
+fn put_hour(sort: u8, hour: u16, f: Flows, out: &mut [u8])
     requires { ⌜ 36 ≤ length (now out) ⌝ }
-    ensures { λ r. ⌜ now (out .exit) ≡ sets (now (out .entry)) 0 (kind ∷ flowsBytes hour (flowsOf f)) ⌝ }
+    ensures { λ r. ⌜ now (out .exit) ≡ sets (now (out .entry)) 0 (sort ∷ hourBytes hour (flowsOf f)) ⌝ }
 {
     let widths = [1usize, 2, 1, 8, 8, 8, 8];
     let values = [
-        kind as u64,
+        sort as u64,
         hour as u64,
         f.status as u64,
         fields::unsigned(f.net_wh, TOP_8),
@@ -93,7 +106,13 @@ fn put_reading(x: Reading, out: &mut [u8])
     ensures { λ r. ⌜ now (out .exit) ≡ sets (now (out .entry)) 0 (recordBytes (reading (readingOf x))) ⌝ }
 {
     let widths = [1usize, 1, 2, 2, 4];
-    let values = [4u64, x.party as u64, x.a as u64, x.b as u64, x.e_wh as u64];
+    let values = [
+        READING,
+        x.party as u64,
+        x.a as u64,
+        x.b as u64,
+        x.e_wh as u64,
+    ];
     fields::put_all(out, &widths, &values);
 }
 
@@ -102,7 +121,7 @@ fn put_price(hour: u16, price_ore: i64, out: &mut [u8])
     ensures { λ r. ⌜ now (out .exit) ≡ sets (now (out .entry)) 0 (recordBytes (price hour «price_ore»)) ⌝ }
 {
     let widths = [1usize, 2, 4];
-    let values = [5u64, hour as u64, fields::unsigned(price_ore, TOP_4)];
+    let values = [PRICE, hour as u64, fields::unsigned(price_ore, TOP_4)];
     fields::put_all(out, &widths, &values);
 }
 
@@ -111,7 +130,7 @@ fn put_end(count: u32, out: &mut [u8])
     ensures { λ r. ⌜ now (out .exit) ≡ sets (now (out .entry)) 0 (recordBytes (end count)) ⌝ }
 {
     let widths = [1usize, 4];
-    let values = [7u64, count as u64];
+    let values = [END, count as u64];
     fields::put_all(out, &widths, &values);
 }
 
@@ -123,17 +142,17 @@ fn encode(r: Record, gln: &[u8], out: &mut [u8])
     match r {
         Record::Heading(h) => put_heading(h, out),
         Record::Party(share) => put_party(gln, share, out),
-        Record::FixedHour(hour, f) => put_hour(3, hour, f, out),
+        Record::FixedHour(hour, f) => put_hour(kind::FIXED_HOUR, hour, f, out),
         Record::Reading(x) => put_reading(x, out),
         Record::Price(hour, price_ore) => put_price(hour, price_ore, out),
-        Record::RefixedHour(hour, f) => put_hour(6, hour, f, out),
+        Record::RefixedHour(hour, f) => put_hour(kind::REFIXED_HOUR, hour, f, out),
         Record::End(count) => put_end(count, out),
     }
 }
 
 // 16, "record writer: too short", of a record that has no fault; else "kind and body at its start, nothing further on touched, and the number of bytes".
 fn put_record(r: Record, gln: &[u8], out: &mut [u8]) -> Written
-    requires { ⌜ first (fieldChecks 745 64 (recordOf (now gln) r) 0) ≡ accepted ⌝ }
+    requires { ⌜ first (checks alone (recordOf (now gln) r)) ≡ accepted ⌝ }
     ensures answer { λ w. ⌜ wrote w ≡ answer (roomFor (recordOf (now (gln .entry)) r) (now (out .entry))) (length (recordBytes (recordOf (now (gln .entry)) r))) ⌝ }
     ensures contents { λ w. ⌜ now (out .exit) ≡ afterwards (roomFor (recordOf (now (gln .entry)) r) (now (out .entry))) (written (recordOf (now (gln .entry)) r) (now (out .entry))) (now (out .entry)) ⌝ }
 {
@@ -150,8 +169,7 @@ pub fn write(r: Record, gln: &[u8], out: &mut [u8]) -> Written
     ensures answer { λ w. ⌜ wrote w ≡ answer (writeVerdict (recordOf (now (gln .entry)) r) (length (now (out .entry)))) (length (recordBytes (recordOf (now (gln .entry)) r))) ⌝ }
     ensures contents { λ w. ⌜ now (out .exit) ≡ afterwards (writeVerdict (recordOf (now (gln .entry)) r) (length (now (out .entry)))) (written (recordOf (now (gln .entry)) r) (now (out .entry))) (now (out .entry)) ⌝ }
 {
-    let g = record::gln_in(gln, r);
-    let a = record::fault(r, g, MOST_HOURS, MOST_PARTIES, 0);
+    let a = record::fault(r, gln, MOST_HOURS, MOST_PARTIES, 0);
     match a {
         Answer::Done => put_record(r, gln, out),
         Answer::Refused(x, place) => Written::Refused(x, place),

@@ -7,7 +7,7 @@ use lib.IntN.{ℤ, pos}
 use lib.ListN.{length}
 use Rattle.answer.specs.Said.{said}
 use Rattle.apportion.specs.Filled.{Filled}
-use Rattle.file_sections.specs.Fields.{Accepted}
+use Rattle.file_sections.specs.Walk.{Accepted}
 use Rattle.file_sections.specs.declared.Sections.{Sections}
 use Rattle.report_figures.specs.declared.Hourly as D
 use Rattle.month_series.specs.Series.{residualAt}

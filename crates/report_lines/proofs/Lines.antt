@@ -7,7 +7,8 @@ use lib.IntN.{ℤ}
 use mir.Facts.{toZ-ofZ}
 use mir.Syntax.{w64}
 use mir.Val.{SFits, toZ, ofZ}
-use Rattle.rules.specs.HoursReport.{statusWord, statusesText, seriesText, partsText, hourText, fraction, distancesText}
+use Rattle.report_lines.specs.HourText.{hourText}
+use Rattle.rules.specs.HoursReport.{statusWord, statusesText, seriesText, partsText, fraction, distancesText}
 use Rattle.rules.specs.Limits.{estimated}
 use Rattle.rules.specs.Statement.{decimal, signedDecimal, newline}
 use Rattle.rules.specs.Words.{ascii}

@@ -1,1 +1,2 @@
+pub mod HourText
 pub mod Rooms

@@ -4,7 +4,8 @@ ghost use mathlib.Core.List.{_++_};
 ghost use Prim.Native.Nat.{_+_, _≤_};
 ghost use lib.ListN.{length};
 ghost use Rattle.report_lines.specs.Rooms.{statusRoom, statusesRoom, seriesRoom, partsRoom, hourRoom, fractionRoom, distancesRoom};
-ghost use Rattle.rules.specs.HoursReport.{statusWord, statusesText, seriesText, partsText, hourText, fraction, distancesText};
+ghost use Rattle.report_lines.specs.HourText.{hourText};
+ghost use Rattle.rules.specs.HoursReport.{statusWord, statusesText, seriesText, partsText, fraction, distancesText};
 ghost use Rattle.rules.specs.Words.{ascii};
 ghost use Rattle.text.specs.Text.{Put, longestName};
 

@@ -7,10 +7,11 @@ use lib.IntN.{ℤ, pos, _-ℤ_}
 use lib.ListN.{length, getD}
 use Rattle.report_text.specs.Lines.{Known, Inside}
 use Rattle.month_sums.proofs.Sizes.{few-hours}
-use Rattle.file_sections.specs.Fields.{FixedAsked}
+use Rattle.file_fields.specs.Fields.{FixedAsked}
 use Rattle.file_sections.specs.declared.Sections.{Sections}
 use Rattle.file_sections.proofs.AcceptedFile.{month-whole, hours-are}
-use Rattle.rules.specs.HoursReport.{hourText, hourLine, allDistributed}
+use Rattle.report_lines.specs.HourText.{hourText}
+use Rattle.rules.specs.HoursReport.{hourLine, allDistributed}
 use Rattle.rules.specs.Limits.{greatestPeriodised}
 use Rattle.rules.specs.Month.{monthOf, flowsAt, appliedFlows, fixedWh, appliedWh, curve, allPeriodised, loss}
 use Rattle.rules.specs.MonthFile.{MonthFile, H}
@@ -85,7 +86,7 @@ module _ {file : List ℕ} {s : Sections} {fixed applied curveNumbers : List ℕ
 
     -- THE LINE OF THE HOUR
     pub hour-text : {a b : ℕ} → a ≡ flowsAt (m .fixed) t .status → b ≡ appliedFlows m t .status → {d l : ℤ} → d ≡ getD distributed t (pos 0) → l ≡ pos (getD applied t 0) -ℤ pos (getD periodised t 0) → hourText t a b (getD fixed t 0) (getD applied t 0) (getD curveNumbers t 0) d (getD periodised t 0) l ≡ hourLine m t
-    unfolding hourLine
+    unfolding hourText hourLine
     hour-text {a} {b} of-a of-b {d} {l} of-d of-l =
         rw (
           of-a,

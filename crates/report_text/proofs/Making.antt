@@ -10,7 +10,7 @@ use Rattle.answer.specs.declared.Answer.the-variants.{Done, Refused}
 use Rattle.answer.specs.declared.Refusal.{Refusal}
 use Rattle.report_text.specs.Lines.{Known, Distanced}
 use Rattle.month_prepare.proofs.Applied.{applied-figures}
-use Rattle.file_sections.specs.Fields.{Accepted}
+use Rattle.file_sections.specs.Walk.{Accepted}
 use Rattle.file_sections.specs.declared.Sections.{Sections}
 use Rattle.file_sections.proofs.AcceptedFile.{read-as}
 use Rattle.report_figures.specs.Hourly.{HourlyIs}

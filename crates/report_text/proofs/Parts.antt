@@ -8,7 +8,7 @@ use native.Mathlib.Omega.{arith}
 use lib.ListN.{length}
 use Rattle.report_text.specs.Lines.{firstHours, firstRoom, restRoom, lineFrom, firstPart, restPart, partiesPart, Inside, FirstAsked}
 use Rattle.month_sums.proofs.Sizes.{few-hours}
-use Rattle.file_sections.specs.Fields.{Accepted}
+use Rattle.file_sections.specs.Walk.{Accepted}
 use Rattle.file_sections.specs.declared.Sections.{Sections}
 use Rattle.file_sections.proofs.AcceptedFile.{hours-are, heading-text}
 use Rattle.report_lines.specs.Rooms.{hourRoom}

@@ -9,9 +9,10 @@ use lib.ListN.{length, getD}
 use Rattle.report_distances.specs.declared.Distances.{Distances}
 use Rattle.report_text.specs.Lines as L
 use Rattle.month_sums.proofs.Sizes.{few-parties}
-use Rattle.file_sections.specs.Fields.{PartyAsked, GlnIs}
+use Rattle.file_fields.specs.Fields.{PartyAsked, GlnIs}
 use Rattle.file_sections.specs.declared.Sections.{Sections}
-use Rattle.file_sections.proofs.AcceptedFile.{parties-are, gln-read, gln-length}
+use Rattle.file_sections.proofs.AcceptedFile.{parties-are}
+use Rattle.file_fields.proofs.FieldsRead.{gln-read, gln-length}
 use Rattle.rules.specs.HoursReport.{distancesText, distancesLine}
 use Rattle.rules.specs.Month.{monthOf}
 use Rattle.rules.specs.MonthFile.{P}

@@ -14,7 +14,7 @@ use Rattle.report_text.specs.Lines.{firstRoom, restRoom, partiesRoom, fi
 use Rattle.report_text.specs.Reporting.{lengthsOf, rooms, reportVerdict, Promised}
 use Rattle.report_text.specs.declared.Reported.the-variants as S
 use Rattle.report_text.proofs.Parts.{parts-make-the-report}
-use Rattle.file_sections.specs.Fields.{Accepted}
+use Rattle.file_sections.specs.Walk.{Accepted}
 use Rattle.file_sections.specs.declared.Sections.{Sections}
 use Rattle.file_sections.proofs.AcceptedFile.{read-as, month-of}
 use Rattle.rules.specs.HoursReport.{judgedReport, answeredReport, hoursReport}

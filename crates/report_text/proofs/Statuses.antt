@@ -7,9 +7,10 @@ use native.Mathlib.Nat.{pos-of-ne-zero}
 use native.Mathlib.Omega.{arith}
 use lib.ListN.{length}
 use Rattle.month_prepare.proofs.Applied.{those-applied, others-applied}
-use Rattle.file_sections.specs.Fields.{FixedAsked, RefixedAsked, FixedIs, RefixedIs}
+use Rattle.file_fields.specs.Fields.{FixedAsked, RefixedAsked, FixedIs, RefixedIs}
 use Rattle.file_sections.specs.declared.Sections.{Sections}
-use Rattle.file_sections.proofs.AcceptedFile.{month-whole, hours-are, refixed-are, fixed-read, refixed-read}
+use Rattle.file_sections.proofs.AcceptedFile.{month-whole, hours-are, refixed-are}
+use Rattle.file_fields.proofs.FieldsRead.{fixed-read, refixed-read}
 use Rattle.record.specs.declared.Flows as CFlows
 use Rattle.rules.specs.Flows.{Flows}
 use Rattle.rules.specs.Month.{monthOf, flowsAt, appliedFlows}

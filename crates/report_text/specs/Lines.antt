@@ -5,7 +5,7 @@ use Prim.Native.Nat.{ℕ, _+_, _-_, _≤_, _<_, min}
 use lib.IntN.{ℤ, pos}
 use Rattle.apportion.specs.Filled.{Filled}
 use Rattle.report_distances.specs.declared.Distances.{Distances}
-use Rattle.file_sections.specs.Fields.{Accepted}
+use Rattle.file_sections.specs.Walk.{Accepted}
 use Rattle.file_sections.specs.declared.Sections.{Sections}
 use Rattle.rules.specs.HoursReport.{hourLine, allDistributed, smallestDistance, largestDistance, distancesLine}
 use Rattle.rules.specs.Month.{monthOf, monthW, fixedWh, appliedWh, curve, allPeriodised, estimatedHours, monthVerdict}

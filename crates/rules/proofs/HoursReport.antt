@@ -20,7 +20,8 @@ use Rattle.rules.proofs.Demand3.{divided, sum-since-first-is, running-b
 use Rattle.rules.proofs.Integers.{minus-cong, minus-near, sumℤ-cong}
 
 -- A RUNNING SUM LESS THE EXACT SHARE, in W-ths of a Wh, is what the party has of the Wh left over, less its remainder
-pub by-carries : (n : ℕ) (share : ℕ → ℕ) → 0 < W n share → (r i : ℕ) → pos (runningSum n share r i * W n share) -ℤ pos (share i * r) ≡ pos (oneEach n (remainder n share r) (leftOver n share r) i * W n share) -ℤ pos (remainder n share r i)
+pub by-carries : (n : ℕ) (share : ℕ → ℕ) → 0 < W n share → (r i : ℕ)
+    → pos (runningSum n share r i * W n share) -ℤ pos (share i * r) ≡ pos (oneEach n (remainder n share r) (leftOver n share r) i * W n share) -ℤ pos (remainder n share r i)
 unfolding runningSum
 by-carries n share some r i =
     let extra : ℕ = oneEach n (remainder n share r) (leftOver n share r) i in

@@ -2,6 +2,7 @@ pub mod Refusals
 pub mod Loops
 pub mod Sums
 pub mod Integers
+pub mod EachKind
 pub mod LargestRemainder
 pub mod Flows
 pub mod Demand3
@@ -11,6 +12,7 @@ pub mod Whole
 pub mod Month
 pub mod Lines
 pub mod HoursReport
+mod Computed
 pub mod WorkedCases
 pub mod WorkedMonths
 pub mod WorkedServices

@@ -14,8 +14,10 @@ use Rattle.rules.specs.Accepted.{NoneRefuses}
 use Rattle.rules.specs.Demands.{Demand3}
 use Rattle.rules.specs.Distributed.{distributedFigure, runningAfter}
 use Rattle.rules.specs.Flows.{Flows, figure, noFigure, residual, judged, judgedBy, verdictOf, residualWh, appliedSeries, W}
-use Rattle.rules.specs.Limits.{greatestW, greatestResidual, greatestCurveNumber, greatestPeriodised, greatestPrice}
-use Rattle.rules.specs.Month.{flowsAt, shareOf, monthW, appliedFlows, appliedWh, priceAt, periodised, allPeriodised, loss, distributed, difference, amount, monthDifference, monthAmount, monthDistributed, hourVerdict, curveVerdict, periodisedVerdict, monthChecks, monthVerdict, curve}
+use Rattle.rules.specs.Limits.{mostHours, greatestW, greatestResidual, greatestCurveNumber, greatestPeriodised, greatestPrice}
+use Rattle.rules.specs.Month.{flowsAt, shareOf, monthW, appliedFlows, appliedWh, priceAt, periodised, allPeriodised, loss, distributed}
+use Rattle.rules.specs.Month.{difference, amount, monthDifference, monthAmount, monthDistributed, hourVerdict, curveVerdict}
+use Rattle.rules.specs.Month.{periodisedVerdict, monthChecks, monthVerdict, curve}
 use Rattle.rules.specs.MonthFile.{MonthFile, H, P}
 use Rattle.rules.specs.Reconciliation.{gridLoss, lossOf, differenceOf, amountMillionths}
 use Rattle.rules.specs.Refusals.{wOutOfRange, residualTooLarge, accepted, unless, inTurn}
@@ -26,6 +28,10 @@ use Rattle.rules.proofs.Reconciliation.{differences-add-up, amounts-add
 use Rattle.rules.proofs.Refusals.{accepted-exactly, in-turn-exactly, unless-exactly, refused-not-accepted}
 use Rattle.rules.proofs.Sums.{sum-member}
 use Rattle.rules.proofs.Whole.{Whole, within-size, HeadingFacts, heading-facts, every-at, within-is, PriceRight}
+
+-- the most that a party's difference of an hour can be, of either sign: one more than the greatest residual and the most that is periodised
+abbrev pub greatestDifference : ℕ
+greatestDifference = suc greatestResidual
 
 -- An hour that is judged to have a figure: it is not missing, and its residual is that figure, within the limit.
 pub record HasFigure (f : Flows) : Type 0 where
@@ -40,7 +46,8 @@ has-figure zero r t e = absurd (refused-not-accepted e)
 has-figure (suc status) (negsuc n) t e = absurd (refused-not-accepted e)
 has-figure (suc status) (pos n) t e = go (leb n greatestResidual) refl e
   where
-    go : (b : Bool) → leb n greatestResidual ≡ b → verdictOf (cond b (figure n) (noFigure residualTooLarge)) t ≡ accepted → (judgedBy (suc status) (pos n) ≡ figure n) × (1 ≤ suc status) × (pos n ≡ pos n) × (n ≤ greatestResidual)
+    go : (b : Bool) → leb n greatestResidual ≡ b → verdictOf (cond b (figure n) (noFigure residualTooLarge)) t ≡ accepted
+        → (judgedBy (suc status) (pos n) ≡ figure n) × (1 ≤ suc status) × (pos n ≡ pos n) × (n ≤ greatestResidual)
     go true b e = (ap (λ t. cond t (figure n) (noFigure residualTooLarge)) b, omega arith, refl, leb-true n greatestResidual b)
     go false b e = absurd (refused-not-accepted e)
 
@@ -133,7 +140,7 @@ module _ (m : MonthFile) (j : Judged m) where
   unfolding monthAmount
   all-amounts = sumℤ-swap (P m) (H m) (amount m) ∙ sumℤ-zero (H m) (λ t b. hour-amounts-add-up t)
 
-  -- A DIFFERENCE LIES WITHIN 2,000,000,001 WH of either sign. With the running sum a after and b before the hour, the residual r and all periodised s:
+  -- A DIFFERENCE LIES WITHIN 2,000,000,001 WH of either sign (`greatestDifference`). With the running sum a after and b before the hour, the residual r and all periodised s:
   -- the carrier's is p + (r - s) - (a - b), another's p - (a - b).
   module _ (t i : ℕ) (in-month : t < H m) (is-party : i < P m) (in-limit : allPeriodised m t ≤ greatestPeriodised) where
     abbrev after-hour : ℕ
@@ -166,21 +173,22 @@ module _ (m : MonthFile) (j : Judged m) where
         ∙ minus-add (periodised m t i) 0 before-hour after-hour
         ∙ ap (λ (x : ℕ). pos (periodised m t i + before-hour) -ℤ pos x) (zero-add after-hour)
 
-    difference-by : (is-carrier : Bool) → natAbs (pos (periodised m t i) +ℤ cond is-carrier (pos (appliedWh m t) -ℤ pos (allPeriodised m t)) (pos 0) -ℤ (pos after-hour -ℤ pos before-hour)) ≤ 2000000001
+    difference-by : (is-carrier : Bool)
+        → natAbs (pos (periodised m t i) +ℤ cond is-carrier (pos (appliedWh m t) -ℤ pos (allPeriodised m t)) (pos 0) -ℤ (pos after-hour -ℤ pos before-hour)) ≤ greatestDifference
     difference-by true =
         rw carriers
         (le-of-suc-le-suc
-        (minus-near (periodised m t i + appliedWh m t + before-hour) (allPeriodised m t + after-hour) 2000000002
+        (minus-near (periodised m t i + appliedWh m t + before-hour) (allPeriodised m t + after-hour) (suc greatestDifference)
         (omega (arith, growth-bounds, own-at-most-all, applied-in-range t in-month))
         (omega (arith, growth-bounds, in-limit))))
     difference-by false =
         rw anothers
         (le-of-suc-le-suc
-        (minus-near (periodised m t i + before-hour) after-hour 2000000002
+        (minus-near (periodised m t i + before-hour) after-hour (suc greatestDifference)
         (omega (arith, growth-bounds, own-at-most-all, in-limit))
         (omega (arith, growth-bounds, applied-in-range t in-month))))
 
-    pub difference-fits : natAbs (difference m t i) ≤ 2000000001
+    pub difference-fits : natAbs (difference m t i) ≤ greatestDifference
     unfolding difference differenceOf loss gridLoss lossOf distributed distributedFigure allPeriodised
     difference-fits = difference-by (eqb i (m .heading .carrier))
 
@@ -190,7 +198,7 @@ module _ (m : MonthFile) (j : Judged m) where
         within-size greatestPrice (priceAt m t)
         (every-at PriceRight (m .prices) (j .whole .prices) t (pos 0) (omega (arith, j .whole .all-prices)))
 
-    pub amount-fits : natAbs (amount m t i) ≤ 2000000001 * 5000000
+    pub amount-fits : natAbs (amount m t i) ≤ greatestDifference * greatestPrice
     unfolding amount amountMillionths
     amount-fits = rw (size-of-product (difference m t i) (priceAt m t)) (mul-le-mul difference-fits price-fits)
 
@@ -213,10 +221,10 @@ module _ (m : MonthFile) (whole : Whole m) (ok : monthVerdict m ≡ accepted) wh
   periodised-in-range t b = periodised-at-most m t (in-turn-exactly (H m) (periodisedVerdict m) .0 (none .1 .1 .1 .1 .1 .0) t b)
 
   -- ITS AMOUNTS FIT 64 BITS: below 745 x 2,000,000,001 x 5,000,000 = 7.45 x 10^18
-  pub month-amount-fits : (i : ℕ) → i < P m → natAbs (monthAmount m i) ≤ 745 * (2000000001 * 5000000)
+  pub month-amount-fits : (i : ℕ) → i < P m → natAbs (monthAmount m i) ≤ mostHours * (greatestDifference * greatestPrice)
   unfolding monthAmount H
   month-amount-fits i b =
       le-trans
-      (size-of-sums (H m) (λ t. amount m t i) (2000000001 * 5000000)
+      (size-of-sums (H m) (λ t. amount m t i) (greatestDifference * greatestPrice)
       (λ t c. amount-fits m accepted-is-judged t i c b (periodised-in-range t c)))
-      (mul-le-mul-right (2000000001 * 5000000) (heading-right m accepted-is-judged .hours .1))
+      (mul-le-mul-right (greatestDifference * greatestPrice) (heading-right m accepted-is-judged .hours .1))

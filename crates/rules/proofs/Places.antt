@@ -12,40 +12,17 @@ use lib.Dec.{eqb, leb, ltb}
 use lib.IntN.{ℤ}
 use lib.ListN.{length, getD, drop, length-append, length-drop, List·getD-append}
 use lib.Seq.{drop-drop, getD-at}
+use Rattle.rules.specs.Accepted.{NoneRefuses}
 use Rattle.rules.specs.Flows.{Flows}
 use Rattle.rules.specs.MonthFile.{MonthFile, nothingYet, H, P, due, recordChecks, with, isEnd, closed, readOn, readMonth}
-use Rattle.rules.specs.Record.{Heading, Party, Reading, Record, heading, party, fixedHour, reading, price, refixedHour, end, known, kindAt, fieldWidths, cutInto, recordFrom, recordAt, bodyLength, inRange, glnRight, spanRight, energyRight, fieldChecks}
+use Rattle.rules.specs.Record.{Heading, Party, Reading, Record, heading, party, fixedHour, reading, price, refixedHour, end, bodyLength, known, fieldWidths}
+use Rattle.rules.specs.Record.{cutInto, kindAt, recordAt, inFile, headingInRange, checks}
 use Rattle.rules.specs.Refusals.{fileFault, given, refusal, first}
 use Rattle.rules.specs.Limits.{longestFile}
 use Rattle.rules.specs.Words.{at, within}
 use Rattle.rules.proofs.Whole.{Counts, Sound, before-the-heading, both-pass, heading-facts, step, nothing-is-sound, given-not-refusal, went-on, closed-gives}
 use Rattle.rules.proofs.Refusals.{accepted-exactly, unless-exactly}
-
--- how long the body of a record is, by its kind
-abbrev pub lengthOf : Record → ℕ
-lengthOf (heading h) = 9
-lengthOf (party p) = 21
-lengthOf (fixedHour hour f) = 35
-lengthOf (reading r) = 9
-lengthOf (price hour p) = 6
-lengthOf (refixedHour hour f) = 35
-lengthOf (end count) = 4
-
-not-known : (k : ℕ) → known (suc (suc (suc (suc (suc (suc (suc (suc k)))))))) ≡ true → ⊥
-unfolding known bodyLength at
-not-known k e = let z : _≡_ {A = ℕ} 0 1 = cc in omega arith
-
-pub length-of-record : (kind : ℕ) (fields : List (List ℕ)) → known kind ≡ true → bodyLength kind ≡ lengthOf (recordFrom kind fields)
-unfolding bodyLength at recordFrom known
-length-of-record zero fields e = absurd (let z : _≡_ {A = ℕ} 0 1 = cc in omega arith)
-length-of-record (suc zero) fields e = refl
-length-of-record (suc (suc zero)) fields e = refl
-length-of-record (suc (suc (suc zero))) fields e = refl
-length-of-record (suc (suc (suc (suc zero)))) fields e = refl
-length-of-record (suc (suc (suc (suc (suc zero))))) fields e = refl
-length-of-record (suc (suc (suc (suc (suc (suc zero)))))) fields e = refl
-length-of-record (suc (suc (suc (suc (suc (suc (suc zero))))))) fields e = refl
-length-of-record (suc (suc (suc (suc (suc (suc (suc (suc k)))))))) fields e = absurd (not-known k e)
+pub use Rattle.rules.proofs.EachKind.{lengthOf, length-of-record}
 
 -- a record of the file that stands at an offset
 pub record Standing (file : List ℕ) (offset : ℕ) (r : Record) : Type 0 where
@@ -60,7 +37,8 @@ Row {A} file offset mk l = (k : ℕ) → k < length l → (d : A) → Standing f
 row-none : {A : Type 0} (file : List ℕ) (offset : ℕ → ℕ) (mk : ℕ → A → Record) (l : List A) → length l ≡ 0 → Row file offset mk l
 row-none file offset mk l e k b d = absurd (omega arith)
 
-row-more : {A : Type 0} (file : List ℕ) (offset : ℕ → ℕ) (mk : ℕ → A → Record) (l : List A) (x : A) → Row file offset mk l → Standing file (offset (length l)) (mk (length l) x) → Row file offset mk (l ++ (x ∷ []))
+row-more : {A : Type 0} (file : List ℕ) (offset : ℕ → ℕ) (mk : ℕ → A → Record) (l : List A) (x : A) → Row file offset mk l
+    → Standing file (offset (length l)) (mk (length l) x) → Row file offset mk (l ++ (x ∷ []))
 row-more {A} file offset mk l x row new k b d =
     ⊎-elim
     (λ (e : k ≡ length l).
@@ -68,6 +46,13 @@ row-more {A} file offset mk l x row new k b d =
     (rw (getD-at l x [] d (length l) refl) new))
     (λ (c : k < length l). rw (List·getD-append l (x ∷ []) d k c) (row k c d))
     (eq-or-lt-of-le (omega (arith, length-append l (x ∷ []))))
+
+-- a record whose hour field is the number that is due, and that stands where that number stands
+at-its-place : {A : Type 0} {file : List ℕ} {offset place hour : ℕ} → offset ≡ place → (mk : ℕ → A → Record) {k : ℕ} → eqb hour k ≡ true → {x : A}
+    → Standing file offset (mk hour x)
+    → Standing file place (mk k x)
+at-its-place {A} {file} {offset} {place} {hour} there mk {k} due {x} here =
+    subst (λ (o : ℕ). Standing file o (mk k x)) there (subst (λ (t : ℕ). Standing file offset (mk t x)) (eqb-true hour k due) here)
 
 -- the offsets, in a file of so many parties, hours and refixed hours
 abbrev pub partyOffset : ℕ → ℕ
@@ -106,7 +91,16 @@ pub record Placed (file : List ℕ) (m : MonthFile) (offset : ℕ) : Type 0 wher
 nothing-is-placed : (file : List ℕ) → Placed file nothingYet 0
 unfolding nothingYet H P
 nothing-is-placed file =
-    record { at-start = λ e. refl; so-far = λ b. absurd (omega arith); head = λ b. absurd (omega arith); parties = row-none file partyOffset asParty [] refl; fixed = row-none file (fixedOffset 0) fixedHour [] refl; refixed = row-none file (refixedOffset 0 0) refixedHour [] refl; prices = row-none file (priceOffset 0 0 0) price [] refl; readings = row-none file (readingOffset 0 0 0) asReading [] refl }
+    record {
+      at-start = λ e. refl;
+      so-far = λ b. absurd (omega arith);
+      head = λ b. absurd (omega arith);
+      parties = row-none file partyOffset asParty [] refl;
+      fixed = row-none file (fixedOffset 0) fixedHour [] refl;
+      refixed = row-none file (refixedOffset 0 0) refixedHour [] refl;
+      prices = row-none file (priceOffset 0 0 0) price [] refl;
+      readings = row-none file (readingOffset 0 0 0) asReading [] refl;
+    }
 
 one-longer : {A : Type 0} (l : List A) (x : A) → length (l ++ (x ∷ [])) ≡ length l + 1
 one-longer l x = length-append l (x ∷ [])
@@ -147,14 +141,32 @@ module _ (file : List ℕ) (m : MonthFile) (s : Sound m) (offset : ℕ) (p : Pla
   place-heading h d some here =
       let none = before-the-heading (s .counts) (eqb-true (m .heading .hours) 0 d) in
       let start : offset ≡ 0 = p .at-start (eqb-true (m .heading .hours) 0 d) in
-      record { at-start = λ e. absurd (omega arith); so-far = λ b. omega (arith, none .0, none .1, none .2, none .3, none .4); head = λ b. subst (λ (o : ℕ). Standing file o (heading h)) start here; parties = row-none file partyOffset asParty (m .parties) (none .0); fixed = row-none file (fixedOffset (h .parties)) fixedHour (m .fixed) (none .1); refixed = row-none file (refixedOffset (h .parties) (h .hours)) refixedHour (m .refixed) (none .2); prices = row-none file (priceOffset (h .parties) (h .hours) (length (m .refixed))) price (m .prices) (none .3); readings = row-none file (readingOffset (h .parties) (h .hours) (length (m .refixed))) asReading (m .readings) (none .4) }
+      record {
+        at-start = λ e. absurd (omega arith);
+        so-far = λ b. omega (arith, none .0, none .1, none .2, none .3, none .4);
+        head = λ b. subst (λ (o : ℕ). Standing file o (heading h)) start here;
+        parties = row-none file partyOffset asParty (m .parties) (none .0);
+        fixed = row-none file (fixedOffset (h .parties)) fixedHour (m .fixed) (none .1);
+        refixed = row-none file (refixedOffset (h .parties) (h .hours)) refixedHour (m .refixed) (none .2);
+        prices = row-none file (priceOffset (h .parties) (h .hours) (length (m .refixed))) price (m .prices) (none .3);
+        readings = row-none file (readingOffset (h .parties) (h .hours) (length (m .refixed))) asReading (m .readings) (none .4);
+      }
 
   place-party : (x : Party) → due m (party x) ≡ true → Standing file offset (party x) → Placed file (with m (party x)) (offset + 22)
   unfolding due with H P
   place-party x d here =
       let none = parties-due (s .counts) (ltb-true (length (m .parties)) (P m) d) in
       let there : offset ≡ partyOffset (length (m .parties)) = omega (arith, p .so-far (none .0), none .1, none .2, none .3, none .4) in
-      record { at-start = λ e. absurd (omega (arith, none .0)); so-far = λ b. omega (arith, one-longer (m .parties) x, p .so-far b); head = p .head; parties = row-more file partyOffset asParty (m .parties) x (p .parties) (subst (λ (o : ℕ). Standing file o (party x)) there here); fixed = p .fixed; refixed = p .refixed; prices = p .prices; readings = p .readings }
+      record {
+        at-start = λ e. absurd (omega (arith, none .0));
+        so-far = λ b. omega (arith, one-longer (m .parties) x, p .so-far b);
+        head = p .head;
+        parties = row-more file partyOffset asParty (m .parties) x (p .parties) (subst (λ (o : ℕ). Standing file o (party x)) there here);
+        fixed = p .fixed;
+        refixed = p .refixed;
+        prices = p .prices;
+        readings = p .readings;
+      }
 
   place-fixed : (hour : ℕ) (x : Flows) → due m (fixedHour hour x) ≡ true → Standing file offset (fixedHour hour x) → Placed file (with m (fixedHour hour x)) (offset + 36)
   unfolding due with H P
@@ -165,7 +177,16 @@ module _ (file : List ℕ) (m : MonthFile) (s : Sound m) (offset : ℕ) (p : Pla
       let more : length (m .fixed) < H m = ltb-true (length (m .fixed)) (H m) (inner .1) in
       let none = fixed-due (s .counts) more in
       let there : offset ≡ fixedOffset (P m) (length (m .fixed)) = omega (arith, p .so-far (omega arith), none .0, none .1, none .2) in
-      record { at-start = λ e. absurd (omega arith); so-far = λ b. omega (arith, one-longer (m .fixed) x, p .so-far b); head = p .head; parties = p .parties; fixed = row-more file (fixedOffset (P m)) fixedHour (m .fixed) x (p .fixed) (subst (λ (o : ℕ). Standing file o (fixedHour (length (m .fixed)) x)) there (subst (λ (t : ℕ). Standing file offset (fixedHour t x)) (eqb-true hour (length (m .fixed)) (outer .1)) here)); refixed = p .refixed; prices = p .prices; readings = p .readings }
+      record {
+        at-start = λ e. absurd (omega arith);
+        so-far = λ b. omega (arith, one-longer (m .fixed) x, p .so-far b);
+        head = p .head;
+        parties = p .parties;
+        fixed = row-more file (fixedOffset (P m)) fixedHour (m .fixed) x (p .fixed) (at-its-place there fixedHour (outer .1) here);
+        refixed = p .refixed;
+        prices = p .prices;
+        readings = p .readings;
+      }
 
   place-refixed : (hour : ℕ) (x : Flows) → due m (refixedHour hour x) ≡ true → Standing file offset (refixedHour hour x) → Placed file (with m (refixedHour hour x)) (offset + 36)
   unfolding due with H P
@@ -179,7 +200,16 @@ module _ (file : List ℕ) (m : MonthFile) (s : Sound m) (offset : ℕ) (p : Pla
       let no-more : length (m .readings) ≡ 0 = no-readings (s .counts) (omega arith) in
       let everyone : length (m .parties) ≡ P m = all-parties (s .counts) all (omega arith) in
       let there : offset ≡ refixedOffset (P m) (H m) (length (m .refixed)) = omega (arith, p .so-far (omega arith)) in
-      record { at-start = λ e. absurd (omega arith); so-far = λ b. omega (arith, one-longer (m .refixed) x, p .so-far b); head = p .head; parties = p .parties; fixed = p .fixed; refixed = row-more file (refixedOffset (P m) (H m)) refixedHour (m .refixed) x (p .refixed) (subst (λ (o : ℕ). Standing file o (refixedHour (length (m .refixed)) x)) there (subst (λ (t : ℕ). Standing file offset (refixedHour t x)) (eqb-true hour (length (m .refixed)) (outer .1)) here)); prices = row-none file (priceOffset (P m) (H m) (length (m .refixed ++ (x ∷ [])))) price (m .prices) no-prices; readings = row-none file (readingOffset (P m) (H m) (length (m .refixed ++ (x ∷ [])))) asReading (m .readings) no-more }
+      record {
+        at-start = λ e. absurd (omega arith);
+        so-far = λ b. omega (arith, one-longer (m .refixed) x, p .so-far b);
+        head = p .head;
+        parties = p .parties;
+        fixed = p .fixed;
+        refixed = row-more file (refixedOffset (P m) (H m)) refixedHour (m .refixed) x (p .refixed) (at-its-place there refixedHour (outer .1) here);
+        prices = row-none file (priceOffset (P m) (H m) (length (m .refixed ++ (x ∷ [])))) price (m .prices) no-prices;
+        readings = row-none file (readingOffset (P m) (H m) (length (m .refixed ++ (x ∷ [])))) asReading (m .readings) no-more;
+      }
 
   place-price : (hour : ℕ) (x : ℤ) → due m (price hour x) ≡ true → Standing file offset (price hour x) → Placed file (with m (price hour x)) (offset + 7)
   unfolding due with H P
@@ -192,7 +222,16 @@ module _ (file : List ℕ) (m : MonthFile) (s : Sound m) (offset : ℕ) (p : Pla
       let no-more : length (m .readings) ≡ 0 = no-readings (s .counts) more in
       let everyone : length (m .parties) ≡ P m = all-parties (s .counts) all (omega arith) in
       let there : offset ≡ priceOffset (P m) (H m) (length (m .refixed)) (length (m .prices)) = omega (arith, p .so-far (omega arith)) in
-      record { at-start = λ e. absurd (omega arith); so-far = λ b. omega (arith, one-longer (m .prices) x, p .so-far b); head = p .head; parties = p .parties; fixed = p .fixed; refixed = p .refixed; prices = row-more file (priceOffset (P m) (H m) (length (m .refixed))) price (m .prices) x (p .prices) (subst (λ (o : ℕ). Standing file o (price (length (m .prices)) x)) there (subst (λ (t : ℕ). Standing file offset (price t x)) (eqb-true hour (length (m .prices)) (outer .1)) here)); readings = p .readings }
+      record {
+        at-start = λ e. absurd (omega arith);
+        so-far = λ b. omega (arith, one-longer (m .prices) x, p .so-far b);
+        head = p .head;
+        parties = p .parties;
+        fixed = p .fixed;
+        refixed = p .refixed;
+        prices = row-more file (priceOffset (P m) (H m) (length (m .refixed))) price (m .prices) x (p .prices) (at-its-place there price (outer .1) here);
+        readings = p .readings;
+      }
 
   place-reading : (x : Reading) → due m (reading x) ≡ true → Standing file offset (reading x) → Placed file (with m (reading x)) (offset + 10)
   unfolding due with H P
@@ -203,21 +242,38 @@ module _ (file : List ℕ) (m : MonthFile) (s : Sound m) (offset : ℕ) (p : Pla
       let all : length (m .fixed) ≡ H m = all-fixed (s .counts) priced some in
       let everyone : length (m .parties) ≡ P m = all-parties (s .counts) all some in
       let there : offset ≡ readingOffset (P m) (H m) (length (m .refixed)) (length (m .readings)) = omega (arith, p .so-far some) in
-      record { at-start = λ e. absurd (omega arith); so-far = λ b. omega (arith, one-longer (m .readings) x, p .so-far b); head = p .head; parties = p .parties; fixed = p .fixed; refixed = p .refixed; prices = p .prices; readings = row-more file (readingOffset (P m) (H m) (length (m .refixed))) asReading (m .readings) x (p .readings) (subst (λ (o : ℕ). Standing file o (reading x)) there here) }
+      record {
+        at-start = λ e. absurd (omega arith);
+        so-far = λ b. omega (arith, one-longer (m .readings) x, p .so-far b);
+        head = p .head;
+        parties = p .parties;
+        fixed = p .fixed;
+        refixed = p .refixed;
+        prices = p .prices;
+        readings = row-more file (readingOffset (P m) (H m) (length (m .refixed))) asReading (m .readings) x (p .readings) (subst (λ (o : ℕ). Standing file o (reading x)) there here);
+      }
 
 -- a record of any kind but the end
-pub place : (file : List ℕ) (m : MonthFile) → Sound m → (offset : ℕ) → Placed file m offset → (r : Record) → isEnd r ≡ false → due m r ≡ true → inRange (H m) (P m) r ≡ true → Standing file offset r → Placed file (with m r) (offset + (1 + lengthOf r))
-unfolding isEnd H P inRange
-place file m s offset p (heading h) e d i here = place-heading file m s offset p h d (heading-facts h i .hours .0) here
-place file m s offset p (party x) e d i here = place-party file m s offset p x d here
-place file m s offset p (fixedHour hour x) e d i here = place-fixed file m s offset p hour x d here
-place file m s offset p (reading x) e d i here = place-reading file m s offset p x d here
-place file m s offset p (price hour x) e d i here = place-price file m s offset p hour x d here
-place file m s offset p (refixedHour hour x) e d i here = place-refixed file m s offset p hour x d here
-place file m s offset p (end count) e d i here = absurd (let z : _≡_ {A = ℕ} 0 1 = cc in omega arith)
+pub place :
+    (file : List ℕ) (m : MonthFile) → Sound m → (offset : ℕ) → Placed file m offset → (n : ℕ) (r : Record)
+    → isEnd r ≡ false
+    → due m r ≡ true
+    → NoneRefuses (checks (inFile m n) r)
+    → Standing file offset r
+    → Placed file (with m r) (offset + (1 + lengthOf r))
+unfolding isEnd H P checks
+place file m s offset p n (heading h) e d c here =
+    place-heading file m s offset p h d (heading-facts h (unless-exactly (headingInRange h) _ _ .0 (c .0)) .hours .0) here
+place file m s offset p n (party x) e d c here = place-party file m s offset p x d here
+place file m s offset p n (fixedHour hour x) e d c here = place-fixed file m s offset p hour x d here
+place file m s offset p n (reading x) e d c here = place-reading file m s offset p x d here
+place file m s offset p n (price hour x) e d c here = place-price file m s offset p hour x d here
+place file m s offset p n (refixedHour hour x) e d c here = place-refixed file m s offset p hour x d here
+place file m s offset p n (end count) e d c here = absurd (let z : _≡_ {A = ℕ} 0 1 = cc in omega arith)
 
 -- where a record stands that passed 2 and 1
-pub here-stands : (file : List ℕ) (offset kind : ℕ) (body : List ℕ) → drop offset file ≡ kind ∷ body → known kind ≡ true → 1 + bodyLength kind ≤ length (kind ∷ body) → Standing file offset (recordAt (kind ∷ body))
+pub here-stands : (file : List ℕ) (offset kind : ℕ) (body : List ℕ) → drop offset file ≡ kind ∷ body → known kind ≡ true
+    → 1 + bodyLength kind ≤ length (kind ∷ body) → Standing file offset (recordAt (kind ∷ body))
 unfolding kindAt at recordAt
 here-stands file offset kind body e k b =
     let size : length (drop offset file) ≡ length file - offset = length-drop offset file in
@@ -225,7 +281,8 @@ here-stands file offset kind body e k b =
     record { is = ap recordAt e; known-kind = rw e k; fits = omega (arith, length-of-record kind (cutInto (fieldWidths kind) body) k) }
 
 -- the bytes after it
-pub bytes-after : (file : List ℕ) (offset kind : ℕ) (body : List ℕ) → drop offset file ≡ kind ∷ body → known kind ≡ true → drop (bodyLength kind) body ≡ drop (offset + (1 + lengthOf (recordAt (kind ∷ body)))) file
+pub bytes-after : (file : List ℕ) (offset kind : ℕ) (body : List ℕ) → drop offset file ≡ kind ∷ body → known kind ≡ true
+    → drop (bodyLength kind) body ≡ drop (offset + (1 + lengthOf (recordAt (kind ∷ body)))) file
 unfolding kindAt at recordAt
 bytes-after file offset kind body e k =
     let longer : 1 + lengthOf (recordAt (kind ∷ body)) ≡ suc (bodyLength kind) = omega (arith, length-of-record kind (cutInto (fieldWidths kind) body) k) in
@@ -239,8 +296,9 @@ end-or-not r = go (isEnd r) refl
     go true e = inl e
     go false e = inr e
 
-read-on-placed : (file : List ℕ) (more : ℕ) (bytes : List ℕ) (n : ℕ) (m : MonthFile) (offset : ℕ) → drop offset file ≡ bytes → Sound m → Placed file m offset → {m′ : MonthFile} → readOn more bytes n m ≡ given m′ → (o : ℕ) × Placed file m′ o
-unfolding readOn recordChecks fieldChecks kindAt at
+read-on-placed : (file : List ℕ) (more : ℕ) (bytes : List ℕ) (n : ℕ) (m : MonthFile) (offset : ℕ) → drop offset file ≡ bytes → Sound m
+    → Placed file m offset → {m′ : MonthFile} → readOn more bytes n m ≡ given m′ → (o : ℕ) × Placed file m′ o
+unfolding readOn recordChecks kindAt at
 read-on-placed file zero bytes n m offset here s p e = absurd (given-not-refusal e)
 read-on-placed file (suc more) [] n m offset here s p e = absurd (given-not-refusal e)
 read-on-placed file (suc more) (kind ∷ body) n m offset here s p {m′} e =
@@ -250,8 +308,7 @@ read-on-placed file (suc more) (kind ∷ body) n m offset here s p {m′} e =
     let k : known kind ≡ true = unless-exactly (known kind) _ _ .0 (passed .0) in
     let b : 1 + bodyLength kind ≤ length (kind ∷ body) = leb-true (1 + bodyLength kind) (length (kind ∷ body)) (unless-exactly _ _ _ .0 (passed .1 .0)) in
     let d : due m r ≡ true = unless-exactly (due m r) _ _ .0 (passed .1 .1 .0) in
-    let i : inRange (H m) (P m) r ≡ true = unless-exactly (inRange (H m) (P m) r) _ _ .0 (passed .1 .1 .1 .0) in
-    let s′ : Sound (with m r) = step m s r d i (unless-exactly (glnRight r) _ _ .0 (passed .1 .1 .1 .1 .0)) (unless-exactly (spanRight (H m) r) _ _ .0 (passed .1 .1 .1 .1 .1 .0)) (unless-exactly (energyRight r) _ _ .0 (passed .1 .1 .1 .1 .1 .1 .0)) in
+    let s′ : Sound (with m r) = step m s n r d (passed .1 .1 .1) in
     ⊎-elim
     (λ (z : isEnd r ≡ true).
     let gives : closed m (suc n) (drop (bodyLength kind) body) ≡ given m′ = rw z at (on .1) in
@@ -260,7 +317,7 @@ read-on-placed file (suc more) (kind ∷ body) n m offset here s p {m′} e =
     let gives : readOn more (drop (bodyLength kind) body) (suc n) (with m r) ≡ given m′ = rw z at (on .1) in
     read-on-placed file more (drop (bodyLength kind) body) (suc n) (with m r) (offset + (1 + lengthOf r))
     (sym (bytes-after file offset kind body here k)) s′
-    (place file m s offset p r z d i (here-stands file offset kind body here k b)) gives)
+    (place file m s offset p n r z d (passed .1 .1 .1) (here-stands file offset kind body here k b)) gives)
     (end-or-not r)
 
 of-the-right-length : (fits : Bool) (file : List ℕ) {m : MonthFile} → cond fits (readOn (length file) file 0 nothingYet) (refusal fileFault 0) ≡ given m → (o : ℕ) × Placed file m o

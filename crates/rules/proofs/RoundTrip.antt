@@ -1,7 +1,7 @@
 -- Demand 2: "a record written is read back the same, and a record read is written back as the same bytes". A number's bytes read as the number and back,
 -- the fields of a body glued together are cut out again, and two's complement undoes itself; so both ways hold for every kind.
 use mathlib.Core.Bool.{Bool, true, false, cond, _&&_}
-use mathlib.Core.List.{List, [], _∷_, _++_, append-assoc, append-nil}
+use mathlib.Core.List.{List, [], _∷_, _++_, append-assoc}
 use mathlib.Core.Path.{_≡_, refl, sym, _∙_, ap, ap₂}
 use Prim.Native.Nat.{ℕ, zero, suc, _+_, _-_, _*_, _/_, _%_, _^_, _≤_, _<_}
 use native.Mathlib.Nat.{pow-suc}
@@ -13,12 +13,19 @@ use lib.IntN.{ℤ, pos, negsuc}
 use lib.ListN.{length, getD, take, drop, length-append, length-drop}
 use lib.Seq.{take-at, drop-at, drop-cons, take-suc, take-add, take-all, getD-drop, length-take-le}
 use lib.Signed.{mag, leZ}
+use Rattle.rules.specs.Accepted.{NoneRefuses}
 use Rattle.rules.specs.Flows.{Flows, flowsInRange, silentIsZero}
 use Rattle.rules.specs.Gln.{validGln, allDigits, weightedSum}
-use Rattle.rules.specs.Record.{Heading, Reading, Record, heading, party, fixedHour, reading, price, refixedHour, end, bodyLength, known, fieldWidths, cutInto, numberOnto, bytesOf, signed, unsigned, field, numberAt, flowsFrom, recordFrom, kindAt, recordAt, flowsBytes, recordBytes, inRange, glnRight, spanRight, energyRight, fieldChecks, readAlone}
+use Rattle.rules.specs.Limits.{estimated, mostHours, mostParties, greatestShare, greatestFlow, greatestEnergy, greatestPrice, glnDigits}
+use Rattle.rules.specs.Record.{Heading, Reading, Record, heading, party, fixedHour, reading, price, refixedHour, end, hourWidths, layouts, widthsIn, fieldWidths}
+use Rattle.rules.specs.Record.{totalOf, bodyLength, known, numberOnto, bytesOf, signed, unsigned, cutInto, field, numberAt, signedAt, headingFrom, flowsFrom}
+use Rattle.rules.specs.Record.{readingFrom, recordFrom, kindAt, recordAt, Field, number, signedNumber, digits, fieldBytes, inWidths, kindOf, hourFields}
+use Rattle.rules.specs.Record.{fieldsOf, recordBytes, alone, headingInRange, hourInRange, checks, readAlone}
 use Rattle.rules.specs.Refusals.{Verdict, accepted, refused, given, unless, andThen, first, answer}
-use Rattle.rules.specs.Words.{at, within, withinℤ}
+use Rattle.rules.specs.Words.{at, withinℤ, joined}
+use Rattle.rules.proofs.EachKind.{Entries, each-kind, kind-known, kind-of-record}
 use Rattle.rules.proofs.Refusals.{accepted-exactly, unless-exactly}
+use Rattle.rules.proofs.Whole.{HeadingFacts, heading-facts, both-pass}
 
 -- NUMBERS AND BYTES
 
@@ -105,36 +112,40 @@ unsigned-of-signed width n h = either (ltb n (256 ^ width / 2))
     either true = refl
     either false = omega arith
 
--- FIELDS AND BODIES
+-- a number of a width, read as signed and written again
+signed-again : (width : ℕ) (l : List ℕ) → length l ≡ width → Bytes l → unsigned width (signed (length l) (numberOnto 0 l)) ≡ numberOnto 0 l
+signed-again width l e h = rw e (unsigned-of-signed width (numberOnto 0 l) (number-small width l e h))
 
--- fields one after the other, and what comes after them
-abbrev joined : List (List ℕ) → List ℕ → List ℕ
-joined [] more = more
-joined (f ∷ fs) more = f ++ joined fs more
+-- a signed number that its width can hold reads back
+signed-back : (width : ℕ) (z : ℤ) → mag z < 256 ^ width / 2
+    → signed (length (bytesOf width (unsigned width z))) (numberOnto 0 (bytesOf width (unsigned width z))) ≡ z
+signed-back width z h =
+    rw (bytes-length width (unsigned width z), number-of-bytes width (unsigned width z) (unsigned-small width z (omega arith)))
+    (signed-of-unsigned width z h)
+
+-- FIELDS AND BODIES
 
 abbrev widthsOf : List (List ℕ) → List ℕ
 widthsOf [] = []
 widthsOf (f ∷ fs) = length f ∷ widthsOf fs
 
-abbrev totalOf : List ℕ → ℕ
-totalOf [] = 0
-totalOf (width ∷ widths) = width + totalOf widths
-
 -- what was joined is cut out again
-cut-joined : (fs : List (List ℕ)) (more : List ℕ) → cutInto (widthsOf fs) (joined fs more) ≡ fs
-unfolding cutInto
+cut-joined : (fs : List (List ℕ)) (more : List ℕ) → cutInto (widthsOf fs) (joined fs ++ more) ≡ fs
+unfolding cutInto joined
 cut-joined [] more = refl
 cut-joined (f ∷ fs) more =
-    ap₂ (λ (x : List ℕ) (y : List ℕ). x ∷ cutInto (widthsOf fs) y) (take-at f (joined fs more) (length f) refl) (drop-at f (joined fs more) (length f) refl)
+    ap (λ (l : List ℕ). take (length f) l ∷ cutInto (widthsOf fs) (drop (length f) l)) (append-assoc f (joined fs) more)
+    ∙ ap₂ (λ (x : List ℕ) (y : List ℕ). x ∷ cutInto (widthsOf fs) y) (take-at f (joined fs ++ more) (length f) refl) (drop-at f (joined fs ++ more) (length f) refl)
     ∙ ap (λ (x : List (List ℕ)). f ∷ x) (cut-joined fs more)
 
-joined-length : (fs : List (List ℕ)) (more : List ℕ) → length (joined fs more) ≡ totalOf (widthsOf fs) + length more
-joined-length [] more = omega arith
-joined-length (f ∷ fs) more = length-append f (joined fs more) ∙ omega (arith, joined-length fs more)
+joined-length : (fs : List (List ℕ)) → length (joined fs) ≡ totalOf (widthsOf fs)
+unfolding joined totalOf
+joined-length [] = refl
+joined-length (f ∷ fs) = length-append f (joined fs) ∙ omega (arith, joined-length fs)
 
 -- what was cut out is joined again
-joined-cut : (widths body : List ℕ) → joined (cutInto widths body) [] ≡ take (totalOf widths) body
-unfolding cutInto
+joined-cut : (widths body : List ℕ) → joined (cutInto widths body) ≡ take (totalOf widths) body
+unfolding cutInto joined totalOf
 joined-cut [] body = refl
 joined-cut (width ∷ widths) body =
     ap (λ (l : List ℕ). take width body ++ l) (joined-cut widths (drop width body)) ∙ sym (take-add width (totalOf widths) body)
@@ -146,7 +157,7 @@ again (width ∷ widths) [] = []
 again (width ∷ widths) (f ∷ fs) = bytesOf width (numberOnto 0 f) ∷ again widths fs
 
 again-same : (widths body : List ℕ) → totalOf widths ≤ length body → Bytes body → again widths (cutInto widths body) ≡ cutInto widths body
-unfolding cutInto
+unfolding cutInto totalOf
 again-same [] body r h = refl
 again-same (width ∷ widths) body r h =
     ap₂ (λ (x : List ℕ) (y : List (List ℕ)). x ∷ y)
@@ -155,299 +166,233 @@ again-same (width ∷ widths) body r h =
 
 -- RECORDS
 
--- a record's kind and its fields as bytes
-abbrev pub kindOf : Record → ℕ
-kindOf (heading h) = 1
-kindOf (party p) = 2
-kindOf (fixedHour hour f) = 3
-kindOf (reading r) = 4
-kindOf (price hour p) = 5
-kindOf (refixedHour hour f) = 6
-kindOf (end count) = 7
-
-abbrev flowsFields : ℕ → Flows → List (List ℕ)
-flowsFields hour f =
-    bytesOf 2 hour ∷ bytesOf 1 (f .status) ∷ bytesOf 8 (unsigned 8 (f .net)) ∷ bytesOf 8 (f .production) ∷ bytesOf 8 (f .hourly)
-    ∷ bytesOf 8 (f .flex)
-    ∷ []
-
-abbrev fieldsOf : Record → List (List ℕ)
-fieldsOf (heading h) =
-    bytesOf 2 (h .area) ∷ bytesOf 2 (h .year) ∷ bytesOf 1 (h .month) ∷ bytesOf 2 (h .hours) ∷ bytesOf 1 (h .parties)
-    ∷ bytesOf 1 (h .carrier)
-    ∷ []
-fieldsOf (party p) = p .gln ∷ bytesOf 8 (p .share) ∷ []
-fieldsOf (fixedHour hour f) = flowsFields hour f
-fieldsOf (reading r) = bytesOf 1 (r .party) ∷ bytesOf 2 (r .a) ∷ bytesOf 2 (r .b) ∷ bytesOf 4 (r .e) ∷ []
-fieldsOf (price hour p) = bytesOf 2 hour ∷ bytesOf 4 (unsigned 4 p) ∷ []
-fieldsOf (refixedHour hour f) = flowsFields hour f
-fieldsOf (end count) = bytesOf 4 count ∷ []
-
-bytes-joined : (r : Record) (more : List ℕ) → recordBytes r ++ more ≡ kindOf r ∷ joined (fieldsOf r) more
-unfolding recordBytes flowsBytes
-bytes-joined (heading h) more = simp append-assoc
-bytes-joined (party p) more = simp append-assoc
-bytes-joined (fixedHour hour f) more = simp append-assoc
-bytes-joined (reading r) more = simp append-assoc
-bytes-joined (price hour p) more = simp append-assoc
-bytes-joined (refixedHour hour f) more = simp append-assoc
-bytes-joined (end count) more = refl
-
 -- a valid GLN has thirteen digits
 pub both-true : (a b : Bool) → a && b ≡ true → (a ≡ true) × (b ≡ true)
-both-true true b e = (refl, e)
-both-true false b e = let z : _≡_ {A = ℕ} 0 1 = cc in absurd (omega arith)
+both-true a b e = both-pass a b e
 
-pub valid-length : (gln : List ℕ) → validGln gln ≡ true → length gln ≡ 13
+pub valid-length : (gln : List ℕ) → validGln gln ≡ true → length gln ≡ glnDigits
 unfolding validGln
 valid-length gln e =
-    eqb-true (length gln) 13 (both-true (eqb (length gln) 13) (allDigits gln) (both-true (eqb (length gln) 13 && allDigits gln) (eqb (weightedSum gln % 10) 0) e .0) .0)
+    let shape = both-true (eqb (length gln) glnDigits && allDigits gln) (eqb (weightedSum gln % 10) 0) e .0 in
+    eqb-true (length gln) glnDigits (both-true (eqb (length gln) glnDigits) (allDigits gln) shape .0)
 
-widths-are : (r : Record) → glnRight r ≡ true → widthsOf (fieldsOf r) ≡ fieldWidths (kindOf r)
-unfolding fieldWidths glnRight
-widths-are (heading h) e = simp bytes-length
-widths-are (party p) e = rw (valid-length (p .gln) e, bytes-length 8 (p .share))
-widths-are (fixedHour hour f) e = simp bytes-length
-widths-are (reading r) e = simp bytes-length
-widths-are (price hour p) e = simp bytes-length
-widths-are (refixedHour hour f) e = simp bytes-length
-widths-are (end count) e = simp bytes-length
+-- what the checks of a record alone say: none of them refuses
+pub none-refuses : (r : Record) → first (checks alone r) ≡ accepted → NoneRefuses (checks alone r)
+none-refuses r e = accepted-exactly (checks alone r) .0 e
 
-total-is : (r : Record) → totalOf (fieldWidths (kindOf r)) ≡ bodyLength (kindOf r)
-unfolding fieldWidths bodyLength at
-total-is (heading h) = refl
-total-is (party p) = refl
-total-is (fixedHour hour f) = refl
-total-is (reading r) = refl
-total-is (price hour p) = refl
-total-is (refixedHour hour f) = refl
-total-is (end count) = refl
+pub valid-gln : (gln : List ℕ) (share : ℕ) → NoneRefuses (checks alone (party (record { gln = gln; share = share }))) → validGln gln ≡ true
+unfolding checks
+valid-gln gln share c = unless-exactly (validGln gln) _ _ .0 (c .1 .0)
 
--- a record with a right GLN has as many bytes as its kind says
-pub record-length : (r : Record) → glnRight r ≡ true → length (recordBytes r) ≡ 1 + bodyLength (kindOf r)
+pub price-range : (hour : ℕ) (p : ℤ) → NoneRefuses (checks alone (price hour p)) → ltb hour mostHours && withinℤ greatestPrice p ≡ true
+unfolding checks
+price-range hour p c = unless-exactly (ltb hour mostHours && withinℤ greatestPrice p) _ _ .0 (c .0)
+
+-- every field of a record without fault has its width
+widths-are : (r : Record) → NoneRefuses (checks alone r) → widthsOf (inWidths (fieldWidths (kindOf r)) (fieldsOf r)) ≡ fieldWidths (kindOf r)
+unfolding fieldWidths layouts widthsIn fieldsOf hourFields inWidths fieldBytes
+widths-are (heading h) c = simp bytes-length
+widths-are (party p) c = rw (valid-length (p .gln) (valid-gln (p .gln) (p .share) c), bytes-length 8 (p .share))
+widths-are (fixedHour hour f) c = simp bytes-length
+widths-are (reading r) c = simp bytes-length
+widths-are (price hour p) c = simp bytes-length
+widths-are (refixedHour hour f) c = simp bytes-length
+widths-are (end count) c = simp bytes-length
+
+pub record-length : (r : Record) → first (checks alone r) ≡ accepted → length (recordBytes r) ≡ 1 + bodyLength (kindOf r)
+unfolding recordBytes bodyLength
 record-length r e =
-    ap length (sym (append-nil (recordBytes r)) ∙ bytes-joined r [])
-    ∙ omega (arith, joined-length (fieldsOf r) [], ap totalOf (widths-are r e), total-is r)
+    let fields : List (List ℕ) = inWidths (fieldWidths (kindOf r)) (fieldsOf r) in
+    omega (arith, joined-length fields, ap totalOf (widths-are r (none-refuses r e)))
 
 -- READ OF WRITTEN
-
-within-most : (low high n : ℕ) → within low high n ≡ true → n ≤ high
-unfolding within
-within-most low high n e = leb-true n high (both-true (leb low n) (leb n high) e .1)
 
 pub within-size : (most : ℕ) (z : ℤ) → withinℤ (suc most) z ≡ true → mag z ≤ suc most
 unfolding withinℤ
 within-size most (pos n) e = leb-true n (suc most) (both-true (leZ (negsuc most) (pos n)) (leb n (suc most)) e .1)
 within-size most (negsuc n) e = let h : n ≤ most = leb-true n most (both-true (leb n most) true e .0) in omega arith
 
+pub price-size : (p : ℤ) → withinℤ greatestPrice p ≡ true → mag p ≤ greatestPrice
+price-size p e = within-size (greatestPrice - 1) p e
+
 -- the fields of an hour within their ranges
 record HourHeld (hour : ℕ) (f : Flows) : Type 0 where
-  hour-small : hour < 745
-  status-small : f .status ≤ 2
-  net-small : mag (f .net) ≤ 8000000000
-  production-small : f .production ≤ 8000000000
-  hourly-small : f .hourly ≤ 8000000000
-  flex-small : f .flex ≤ 8000000000
+  hour-small : hour < mostHours
+  status-small : f .status ≤ estimated
+  net-small : mag (f .net) ≤ greatestFlow
+  production-small : f .production ≤ greatestFlow
+  hourly-small : f .hourly ≤ greatestFlow
+  flex-small : f .flex ≤ greatestFlow
 
-hour-held : (hour : ℕ) (f : Flows) → ltb hour 745 && flowsInRange f && silentIsZero f ≡ true → HourHeld hour f
-unfolding flowsInRange
+hour-held : (hour : ℕ) (f : Flows) → hourInRange mostHours hour f ≡ true → HourHeld hour f
+unfolding hourInRange flowsInRange
 hour-held hour f e =
-    let a : ltb hour 745 && flowsInRange f ≡ true = both-true (ltb hour 745 && flowsInRange f) (silentIsZero f) e .0 in
-    let b : flowsInRange f ≡ true = both-true (ltb hour 745) (flowsInRange f) a .1 in
-    let c = both-true (leb (f .status) 2 && withinℤ 8000000000 (f .net) && leb (f .production) 8000000000 && leb (f .hourly) 8000000000) (leb (f .flex) 8000000000) b in
-    let d = both-true (leb (f .status) 2 && withinℤ 8000000000 (f .net) && leb (f .production) 8000000000) (leb (f .hourly) 8000000000) (c .0) in
-    let g = both-true (leb (f .status) 2 && withinℤ 8000000000 (f .net)) (leb (f .production) 8000000000) (d .0) in
-    let h = both-true (leb (f .status) 2) (withinℤ 8000000000 (f .net)) (g .0) in
+    let status = leb (f .status) estimated in
+    let net = withinℤ greatestFlow (f .net) in
+    let production = leb (f .production) greatestFlow in
+    let hourly = leb (f .hourly) greatestFlow in
+    let a = both-true (ltb hour mostHours && flowsInRange f) (silentIsZero f) e in
+    let b = both-true (ltb hour mostHours) (flowsInRange f) (a .0) in
+    let c = both-true (status && net && production && hourly) (leb (f .flex) greatestFlow) (b .1) in
+    let d = both-true (status && net && production) hourly (c .0) in
+    let g = both-true (status && net) production (d .0) in
+    let h = both-true status net (g .0) in
     record {
-      hour-small = ltb-true hour 745 (both-true (ltb hour 745) (flowsInRange f) a .0);
-      status-small = leb-true (f .status) 2 (h .0);
-      net-small = within-size 7999999999 (f .net) (h .1);
-      production-small = leb-true (f .production) 8000000000 (g .1);
-      hourly-small = leb-true (f .hourly) 8000000000 (d .1);
-      flex-small = leb-true (f .flex) 8000000000 (c .1);
+      hour-small = ltb-true hour mostHours (b .0);
+      status-small = leb-true (f .status) estimated (h .0);
+      net-small = within-size (greatestFlow - 1) (f .net) (h .1);
+      production-small = leb-true (f .production) greatestFlow (g .1);
+      hourly-small = leb-true (f .hourly) greatestFlow (d .1);
+      flex-small = leb-true (f .flex) greatestFlow (c .1);
     }
 
 hour-back : (hour : ℕ) (f : Flows) → HourHeld hour f → numberOnto 0 (bytesOf 2 hour) ≡ hour
 hour-back hour f h = number-of-bytes 2 hour (omega (arith, h .hour-small))
 
-flows-back : (hour : ℕ) (f : Flows) → HourHeld hour f → flowsFrom (flowsFields hour f) ≡ f
-unfolding flowsFrom numberAt field
+flows-back : (hour : ℕ) (f : Flows) → HourHeld hour f → flowsFrom (inWidths hourWidths (hourFields hour f)) ≡ f
+unfolding flowsFrom numberAt signedAt field inWidths fieldBytes hourFields
 flows-back hour f h =
     rw (
       number-of-bytes 1 (f .status) (omega (arith, h .status-small)),
-      number-of-bytes 8 (unsigned 8 (f .net)) (unsigned-small 8 (f .net) (omega (arith, h .net-small))),
-      signed-of-unsigned 8 (f .net) (omega (arith, h .net-small)),
+      signed-back 8 (f .net) (omega (arith, h .net-small)),
       number-of-bytes 8 (f .production) (omega (arith, h .production-small)),
       number-of-bytes 8 (f .hourly) (omega (arith, h .hourly-small)),
       number-of-bytes 8 (f .flex) (omega (arith, h .flex-small)),
     )
 
-heading-back : (h : Heading) → inRange 745 64 (heading h) ≡ true → recordFrom 1 (fieldsOf (heading h)) ≡ heading h
-unfolding inRange recordFrom numberAt field
-heading-back h e =
-    let a = both-true (within 1 999 (h .area) && within 2000 2099 (h .year) && within 1 12 (h .month) && within 1 745 (h .hours) && within 1 64 (h .parties)) (ltb (h .carrier) (h .parties)) e in
-    let b = both-true (within 1 999 (h .area) && within 2000 2099 (h .year) && within 1 12 (h .month) && within 1 745 (h .hours)) (within 1 64 (h .parties)) (a .0) in
-    let c = both-true (within 1 999 (h .area) && within 2000 2099 (h .year) && within 1 12 (h .month)) (within 1 745 (h .hours)) (b .0) in
-    let d = both-true (within 1 999 (h .area) && within 2000 2099 (h .year)) (within 1 12 (h .month)) (c .0) in
-    let f = both-true (within 1 999 (h .area)) (within 2000 2099 (h .year)) (d .0) in
-    let parties = within-most 1 64 (h .parties) (b .1) in
+-- a record's fields, each in its width
+abbrev written-fields : Record → List (List ℕ)
+written-fields r = inWidths (fieldWidths (kindOf r)) (fieldsOf r)
+
+heading-back : (h : Heading) → HeadingFacts h → recordFrom (kindOf (heading h)) (written-fields (heading h)) ≡ heading h
+unfolding fieldWidths layouts widthsIn fieldsOf inWidths fieldBytes recordFrom headingFrom numberAt field
+heading-back h f =
     rw (
-      number-of-bytes 2 (h .area) (omega (arith, within-most 1 999 (h .area) (f .0))),
-      number-of-bytes 2 (h .year) (omega (arith, within-most 2000 2099 (h .year) (f .1))),
-      number-of-bytes 1 (h .month) (omega (arith, within-most 1 12 (h .month) (d .1))),
-      number-of-bytes 2 (h .hours) (omega (arith, within-most 1 745 (h .hours) (c .1))),
-      number-of-bytes 1 (h .parties) (omega (arith, parties)),
-      number-of-bytes 1 (h .carrier) (omega (arith, parties, ltb-true (h .carrier) (h .parties) (a .1))),
+      number-of-bytes 2 (h .area) (omega (arith, f .area .1)),
+      number-of-bytes 2 (h .year) (omega (arith, f .year .1)),
+      number-of-bytes 1 (h .month) (omega (arith, f .month .1)),
+      number-of-bytes 2 (h .hours) (omega (arith, f .hours .1)),
+      number-of-bytes 1 (h .parties) (omega (arith, f .parties .1)),
+      number-of-bytes 1 (h .carrier) (omega (arith, f .parties .1, f .carrier)),
     )
 
-reading-back : (r : Reading) → inRange 745 64 (reading r) ≡ true → spanRight 745 (reading r) ≡ true → energyRight (reading r) ≡ true
-    → recordFrom 4 (fieldsOf (reading r)) ≡ reading r
-unfolding inRange spanRight energyRight recordFrom numberAt field
-reading-back r e s g =
-    let span = both-true (ltb (r .a) (r .b)) (leb (r .b) 745) s in
-    let b : r .b ≤ 745 = leb-true (r .b) 745 (span .1) in
+reading-back : (r : Reading) → NoneRefuses (checks alone (reading r)) → recordFrom (kindOf (reading r)) (written-fields (reading r)) ≡ reading r
+unfolding checks fieldWidths layouts widthsIn fieldsOf inWidths fieldBytes recordFrom readingFrom numberAt field
+reading-back r c =
+    let whose = unless-exactly (ltb (r .party) mostParties) _ _ .0 (c .0) in
+    let span = both-true (ltb (r .a) (r .b)) (leb (r .b) mostHours) (unless-exactly _ _ _ .0 (c .1 .0)) in
+    let b : r .b ≤ mostHours = leb-true (r .b) mostHours (span .1) in
     let a : r .a < r .b = ltb-true (r .a) (r .b) (span .0) in
+    let energy = unless-exactly (leb (r .e) greatestEnergy) _ _ .0 (c .1 .1 .0) in
     rw (
-      number-of-bytes 1 (r .party) (omega (arith, ltb-true (r .party) 64 e)),
+      number-of-bytes 1 (r .party) (omega (arith, ltb-true (r .party) mostParties whose)),
       number-of-bytes 2 (r .a) (omega arith),
       number-of-bytes 2 (r .b) (omega arith),
-      number-of-bytes 4 (r .e) (omega (arith, leb-true (r .e) 1000000000 g)),
+      number-of-bytes 4 (r .e) (omega (arith, leb-true (r .e) greatestEnergy energy)),
     )
 
-price-back : (hour : ℕ) (p : ℤ) → inRange 745 64 (price hour p) ≡ true → recordFrom 5 (fieldsOf (price hour p)) ≡ price hour p
-unfolding inRange recordFrom numberAt field
-price-back hour p e =
-    let both = both-true (ltb hour 745) (withinℤ 5000000 p) e in
-    let small : mag p ≤ 5000000 = within-size 4999999 p (both .1) in
-    rw (
-      number-of-bytes 2 hour (omega (arith, ltb-true hour 745 (both .0))),
-      number-of-bytes 4 (unsigned 4 p) (unsigned-small 4 p (omega arith)),
-      signed-of-unsigned 4 p (omega arith),
-    )
+price-back : (hour : ℕ) (p : ℤ) → NoneRefuses (checks alone (price hour p)) → recordFrom (kindOf (price hour p)) (written-fields (price hour p)) ≡ price hour p
+unfolding fieldWidths layouts widthsIn fieldsOf inWidths fieldBytes recordFrom numberAt signedAt field
+price-back hour p c =
+    let both = both-true (ltb hour mostHours) (withinℤ greatestPrice p) (price-range hour p c) in
+    let small : mag p ≤ greatestPrice = price-size p (both .1) in
+    rw (number-of-bytes 2 hour (omega (arith, ltb-true hour mostHours (both .0))), signed-back 4 p (omega arith))
 
 -- "the end count may be any 4 bytes"
 abbrev pub CountHeld : Record → Type 0
-CountHeld (heading h) = Unit {0}
-CountHeld (party p) = Unit {0}
-CountHeld (fixedHour hour f) = Unit {0}
-CountHeld (reading r) = Unit {0}
-CountHeld (price hour p) = Unit {0}
-CountHeld (refixedHour hour f) = Unit {0}
-CountHeld (end count) = count < 256 ^ 4
+CountHeld r = (count : ℕ) → r ≡ end count → count < 256 ^ 4
 
 -- the fields of a record without fault are read as the record
-fields-back : (r : Record) → CountHeld r → inRange 745 64 r ≡ true → spanRight 745 r ≡ true → energyRight r ≡ true → recordFrom (kindOf r) (fieldsOf r) ≡ r
-unfolding inRange recordFrom numberAt field
-fields-back (heading h) n e s g = heading-back h e
-fields-back (party p) n e s g = rw (number-of-bytes 8 (p .share) (omega (arith, leb-true (p .share) 4000000000 e)))
-fields-back (fixedHour hour f) n e s g = let h = hour-held hour f e in ap₂ fixedHour (hour-back hour f h) (flows-back hour f h)
-fields-back (reading r) n e s g = reading-back r e s g
-fields-back (price hour p) n e s g = price-back hour p e
-fields-back (refixedHour hour f) n e s g = let h = hour-held hour f e in ap₂ refixedHour (hour-back hour f h) (flows-back hour f h)
-fields-back (end count) n e s g = ap end (number-of-bytes 4 count n)
+fields-back : (r : Record) → CountHeld r → NoneRefuses (checks alone r) → recordFrom (kindOf r) (written-fields r) ≡ r
+unfolding checks fieldWidths layouts widthsIn fieldsOf hourFields inWidths fieldBytes recordFrom numberAt field
+fields-back (heading h) n c = heading-back h (heading-facts h (unless-exactly (headingInRange h) _ _ .0 (c .0)))
+fields-back (party p) n c =
+    let share = unless-exactly (leb (p .share) greatestShare) _ _ .0 (c .0) in
+    rw (number-of-bytes 8 (p .share) (omega (arith, leb-true (p .share) greatestShare share)))
+fields-back (fixedHour hour f) n c =
+    let h = hour-held hour f (unless-exactly (hourInRange mostHours hour f) _ _ .0 (c .0)) in
+    ap₂ fixedHour (hour-back hour f h) (flows-back hour f h)
+fields-back (reading r) n c = reading-back r c
+fields-back (price hour p) n c = price-back hour p c
+fields-back (refixedHour hour f) n c =
+    let h = hour-held hour f (unless-exactly (hourInRange mostHours hour f) _ _ .0 (c .0)) in
+    ap₂ refixedHour (hour-back hour f h) (flows-back hour f h)
+fields-back (end count) n c = ap end (number-of-bytes 4 count (n count refl))
 
--- what an accepted record's checks say
-pub record Sound (r : Record) : Type 0 where
-  pub range : inRange 745 64 r ≡ true
-  pub gln : glnRight r ≡ true
-  pub span : spanRight 745 r ≡ true
-  pub energy : energyRight r ≡ true
-
-pub sound : (r : Record) → first (fieldChecks 745 64 r 0) ≡ accepted → Sound r
-unfolding fieldChecks
-sound r e =
-    let all = accepted-exactly (fieldChecks 745 64 r 0) .0 e in
-    record {
-      range = unless-exactly (inRange 745 64 r) _ 0 .0 (all .0);
-      gln = unless-exactly (glnRight r) _ 0 .0 (all .1 .0);
-      span = unless-exactly (spanRight 745 r) _ 0 .0 (all .1 .1 .0);
-      energy = unless-exactly (energyRight r) _ 0 .0 (all .1 .1 .1 .0);
-    }
-
-record-back : (r : Record) (more : List ℕ) → CountHeld r → Sound r → recordAt (recordBytes r ++ more) ≡ r
-unfolding recordAt kindAt at
-record-back r more n s =
-    ap recordAt (bytes-joined r more)
-    ∙ ap (λ (ws : List ℕ). recordFrom (kindOf r) (cutInto ws (joined (fieldsOf r) more))) (sym (widths-are r (s .gln)))
-    ∙ ap (recordFrom (kindOf r)) (cut-joined (fieldsOf r) more)
-    ∙ fields-back r n (s .range) (s .span) (s .energy)
+record-back : (r : Record) (more : List ℕ) → CountHeld r → NoneRefuses (checks alone r) → recordAt (recordBytes r ++ more) ≡ r
+unfolding recordBytes recordAt kindAt at
+record-back r more n c =
+    ap (λ (ws : List ℕ). recordFrom (kindOf r) (cutInto ws (joined (written-fields r) ++ more))) (sym (widths-are r c))
+    ∙ ap (recordFrom (kindOf r)) (cut-joined (written-fields r) more)
+    ∙ fields-back r n c
 
 kind-back : (r : Record) (more : List ℕ) → kindAt (recordBytes r ++ more) ≡ kindOf r
-unfolding kindAt at
-kind-back r more = ap kindAt (bytes-joined r more)
-
-kind-known : (r : Record) → known (kindOf r) ≡ true
-unfolding known bodyLength at
-kind-known (heading h) = refl
-kind-known (party p) = refl
-kind-known (fixedHour hour f) = refl
-kind-known (reading r) = refl
-kind-known (price hour p) = refl
-kind-known (refixedHour hour f) = refl
-kind-known (end count) = refl
+unfolding recordBytes kindAt at
+kind-back r more = refl
 
 -- READ OF WRITTEN IS THE SAME RECORD, for every record without fault, whatever follows it
-pub read-of-written : (r : Record) (more : List ℕ) → CountHeld r → first (fieldChecks 745 64 r 0) ≡ accepted → readAlone (recordBytes r ++ more) ≡ given r
+pub read-of-written : (r : Record) (more : List ℕ) → CountHeld r → first (checks alone r) ≡ accepted → readAlone (recordBytes r ++ more) ≡ given r
 unfolding readAlone first andThen unless answer
 read-of-written r more n e =
     let s : List ℕ = recordBytes r ++ more in
-    let held : Sound r = sound r e in
-    let size : 1 + bodyLength (kindOf r) ≤ length s = omega (arith, length-append (recordBytes r) more, record-length r (held .gln)) in
-    rw (le-leb 1 (length s) (omega arith), kind-back r more, kind-known r, le-leb (1 + bodyLength (kindOf r)) (length s) size, record-back r more n held, e)
+    let size : 1 + bodyLength (kindOf r) ≤ length s = omega (arith, length-append (recordBytes r) more, record-length r e) in
+    let fits = le-leb (1 + bodyLength (kindOf r)) (length s) size in
+    rw (le-leb 1 (length s) (omega arith), kind-back r more, kind-known r, fits, record-back r more n (none-refuses r e), e)
 
 -- WRITTEN OF READ
 
-field-small : (width : ℕ) (l : List ℕ) → width ≤ length l → Bytes l → numberOnto 0 (take width l) < 256 ^ width
-field-small width l r h = number-small width (take width l) (length-take-le width l r) (bytes-take width l h)
-
--- what stands after the fields before it
+-- the fields that a body is cut into, by the record that they are: of an hour, net supply stands after three bytes; of a price, the price after two
 module _ (body : List ℕ) (h : Bytes body) where
-  net-again : 35 ≤ length body → unsigned 8 (signed 8 (numberOnto 0 (take 8 (drop 1 (drop 2 body))))) ≡ numberOnto 0 (take 8 (drop 1 (drop 2 body)))
-  net-again r =
-      unsigned-of-signed 8 (numberOnto 0 (take 8 (drop 1 (drop 2 body))))
-      (field-small 8 (drop 1 (drop 2 body)) (rw (length-drop 1 (drop 2 body), length-drop 2 body) (omega arith)) (bytes-drop 1 (drop 2 body) (bytes-drop 2 body h)))
+  abbrev after-hour : List ℕ
+  after-hour = drop 1 (drop 2 body)
 
-  price-again : 6 ≤ length body → unsigned 4 (signed 4 (numberOnto 0 (take 4 (drop 2 body)))) ≡ numberOnto 0 (take 4 (drop 2 body))
-  price-again r =
-      unsigned-of-signed 4 (numberOnto 0 (take 4 (drop 2 body)))
-      (field-small 4 (drop 2 body) (rw (length-drop 2 body) (omega arith)) (bytes-drop 2 body h))
-
-  hour-again : 35 ≤ length body → flowsFields (numberAt (cutInto (fieldWidths 3) body) 0) (flowsFrom (cutInto (fieldWidths 3) body)) ≡ cutInto (fieldWidths 3) body
-  unfolding fieldWidths cutInto flowsFrom numberAt field
+  hour-again : totalOf hourWidths ≤ length body
+      → inWidths hourWidths (hourFields (numberAt (cutInto hourWidths body) 0) (flowsFrom (cutInto hourWidths body))) ≡ cutInto hourWidths body
+  unfolding totalOf cutInto flowsFrom numberAt signedAt field inWidths fieldBytes hourFields
   hour-again r =
+      let size : 8 ≤ length after-hour = rw (length-drop 1 (drop 2 body), length-drop 2 body) (omega arith) in
+      let net = signed-again 8 (take 8 after-hour) (length-take-le 8 after-hour size) (bytes-take 8 after-hour (bytes-drop 1 (drop 2 body) (bytes-drop 2 body h))) in
       ap (λ (n : ℕ).
       bytesOf 2 (numberOnto 0 (take 2 body)) ∷ bytesOf 1 (numberOnto 0 (take 1 (drop 2 body))) ∷ bytesOf 8 n
-      ∷ again (8 ∷ 8 ∷ 8 ∷ []) (cutInto (8 ∷ 8 ∷ 8 ∷ []) (drop 8 (drop 1 (drop 2 body)))))
-      (net-again r)
-      ∙ again-same (2 ∷ 1 ∷ 8 ∷ 8 ∷ 8 ∷ 8 ∷ []) body r h
+      ∷ again (8 ∷ 8 ∷ 8 ∷ []) (cutInto (8 ∷ 8 ∷ 8 ∷ []) (drop 8 after-hour)))
+      net
+      ∙ again-same hourWidths body r h
+
+  price-again : 6 ≤ length body
+      → bytesOf 2 (numberOnto 0 (take 2 body)) ∷ bytesOf 4 (unsigned 4 (signed (length (take 4 (drop 2 body))) (numberOnto 0 (take 4 (drop 2 body))))) ∷ []
+      ≡ cutInto (2 ∷ 4 ∷ []) body
+  unfolding totalOf cutInto
+  price-again r =
+      let size : 4 ≤ length (drop 2 body) = rw (length-drop 2 body) (omega arith) in
+      let ore = signed-again 4 (take 4 (drop 2 body)) (length-take-le 4 (drop 2 body) size) (bytes-take 4 (drop 2 body) (bytes-drop 2 body h)) in
+      ap (λ (n : ℕ). bytesOf 2 (numberOnto 0 (take 2 body)) ∷ bytesOf 4 n ∷ []) ore ∙ again-same (2 ∷ 4 ∷ []) body r h
+
+  gln-again : 21 ≤ length body
+      → take glnDigits body ∷ bytesOf 8 (numberOnto 0 (take 8 (drop glnDigits body))) ∷ [] ≡ cutInto (glnDigits ∷ 8 ∷ []) body
+  unfolding totalOf cutInto
+  gln-again r =
+      ap (λ (fs : List (List ℕ)). take glnDigits body ∷ fs)
+      (again-same (8 ∷ []) (drop glnDigits body) (rw (length-drop glnDigits body) (omega arith)) (bytes-drop glnDigits body h))
 
   -- the record cut out of a body has that body's fields
-  record SameFields (k : ℕ) : Type 0 where
-    kind : kindOf (recordFrom k (cutInto (fieldWidths k) body)) ≡ k
-    fields : fieldsOf (recordFrom k (cutInto (fieldWidths k) body)) ≡ cutInto (fieldWidths k) body
-    size : totalOf (fieldWidths k) ≡ bodyLength k
+  abbrev SameFields : ℕ → List ℕ → Type 0
+  SameFields k ws = totalOf ws ≤ length body → inWidths ws (fieldsOf (recordFrom k (cutInto ws body))) ≡ cutInto ws body
 
-  fields-same : (k : ℕ) → known k ≡ true → bodyLength k ≤ length body → SameFields k
-  unfolding known bodyLength at fieldWidths recordFrom cutInto numberAt field
-  fields-same zero e r = let z : _≡_ {A = ℕ} 0 1 = cc in absurd (omega arith)
-  fields-same (suc zero) e r = record { kind = refl; fields = again-same (2 ∷ 2 ∷ 1 ∷ 2 ∷ 1 ∷ 1 ∷ []) body r h; size = refl }
-  fields-same (suc (suc zero)) e r =
-      record {
-        kind = refl;
-        fields = ap (λ (fs : List (List ℕ)). take 13 body ∷ fs) (again-same (8 ∷ []) (drop 13 body) (rw (length-drop 13 body) (omega arith)) (bytes-drop 13 body h));
-        size = refl;
-      }
-  fields-same (suc (suc (suc zero))) e r = record { kind = refl; fields = hour-again r; size = refl }
-  fields-same (suc (suc (suc (suc zero)))) e r = record { kind = refl; fields = again-same (1 ∷ 2 ∷ 2 ∷ 4 ∷ []) body r h; size = refl }
-  fields-same (suc (suc (suc (suc (suc zero))))) e r =
-      record {
-        kind = refl;
-        fields = ap (λ (n : ℕ). bytesOf 2 (numberOnto 0 (take 2 body)) ∷ bytesOf 4 n ∷ []) (price-again r) ∙ again-same (2 ∷ 4 ∷ []) body r h;
-        size = refl;
-      }
-  fields-same (suc (suc (suc (suc (suc (suc zero)))))) e r = record { kind = refl; fields = hour-again r; size = refl }
-  fields-same (suc (suc (suc (suc (suc (suc (suc zero))))))) e r = record { kind = refl; fields = again-same (4 ∷ []) body r h; size = refl }
-  fields-same (suc (suc (suc (suc (suc (suc (suc (suc k)))))))) e r = let z : _≡_ {A = ℕ} 0 1 = cc in absurd (omega arith)
+  same-fields : Entries SameFields layouts
+  unfolding layouts totalOf cutInto fieldsOf recordFrom headingFrom readingFrom numberAt signedAt field inWidths fieldBytes
+  same-fields = (
+    λ r. again-same (2 ∷ 2 ∷ 1 ∷ 2 ∷ 1 ∷ 1 ∷ []) body r h,
+    (
+      λ r. gln-again r,
+      (
+        λ r. hour-again r,
+        (
+          λ r. again-same (1 ∷ 2 ∷ 2 ∷ 4 ∷ []) body r h,
+          (λ r. price-again r, (λ r. hour-again r, (λ r. again-same (4 ∷ []) body r h, tt))),
+        ),
+      ),
+    ),
+  )
 
 -- what a reading that gives a record says of the bytes
 pub given-by : {A : Type 0} (v : Verdict) (a b : A) → answer v a ≡ given b → (v ≡ accepted) × (a ≡ b)
@@ -459,7 +404,7 @@ pub record Read (s : List ℕ) (r : Record) : Type 0 where
   pub some : 1 ≤ length s
   pub kind-known : known (kindAt s) ≡ true
   pub fits : 1 + bodyLength (kindAt s) ≤ length s
-  pub judged : first (fieldChecks 745 64 r 0) ≡ accepted
+  pub judged : first (checks alone r) ≡ accepted
   pub is : recordAt s ≡ r
 
 pub what-read-says : (s : List ℕ) (r : Record) → readAlone s ≡ given r → Read s r
@@ -467,26 +412,29 @@ unfolding readAlone
 what-read-says s r e =
     let both = given-by _ (recordAt s) r e in
     let all = accepted-exactly _ .0 (both .0) in
+    let fits = unless-exactly (leb (1 + bodyLength (kindAt s)) (length s)) _ 0 .0 (all .1 .1 .0) in
     record {
       some = leb-true 1 (length s) (unless-exactly (leb 1 (length s)) _ 0 .0 (all .0));
       kind-known = unless-exactly (known (kindAt s)) _ 0 .0 (all .1 .0);
-      fits = leb-true (1 + bodyLength (kindAt s)) (length s) (unless-exactly (leb (1 + bodyLength (kindAt s)) (length s)) _ 0 .0 (all .1 .1 .0));
-      judged = rw (← (both .1)) (accepted-exactly (fieldChecks 745 64 (recordAt s) 0) .1 (all .1 .1 .1));
+      fits = leb-true (1 + bodyLength (kindAt s)) (length s) fits;
+      judged = rw (← (both .1)) (accepted-exactly (checks alone (recordAt s)) .1 (all .1 .1 .1));
       is = both .1;
     }
 
 -- WRITTEN OF READ IS THE SAME BYTES
 pub written-of-read : (s : List ℕ) (r : Record) → Bytes s → readAlone s ≡ given r → recordBytes r ≡ take (1 + bodyLength (kindAt s)) s
-unfolding recordAt kindAt at
+unfolding recordBytes recordAt bodyLength kindAt at
 written-of-read s r h e =
     let says : Read s r = what-read-says s r e in
     let body : List ℕ = drop 1 s in
     let k : ℕ = getD s 0 0 in
-    let same : SameFields body (bytes-drop 1 s h) k = fields-same body (bytes-drop 1 s h) k (says .kind-known) (rw (length-drop 1 s) (omega (arith, says .fits))) in
+    let small : Bytes body = bytes-drop 1 s h in
+    let room : bodyLength k ≤ length body = rw (length-drop 1 s) (omega (arith, says .fits)) in
+    let same = each-kind (SameFields body small) (same-fields body small) k (says .kind-known) room in
+    let kind : kindOf (recordAt s) ≡ k = kind-of-record k (cutInto (fieldWidths k) body) (says .kind-known) in
     let split : s ≡ k ∷ body = drop-cons s 0 0 (omega (arith, says .some)) in
     ap recordBytes (sym (says .is))
-    ∙ sym (append-nil (recordBytes (recordAt s)))
-    ∙ bytes-joined (recordAt s) []
-    ∙ ap₂ (λ (x : ℕ) (fs : List (List ℕ)). x ∷ joined fs []) (same .kind) (same .fields)
-    ∙ ap (λ (l : List ℕ). k ∷ l) (joined-cut (fieldWidths k) body ∙ ap (λ (n : ℕ). take n body) (same .size))
+    ∙ ap (λ (x : ℕ). x ∷ joined (inWidths (fieldWidths x) (fieldsOf (recordAt s)))) kind
+    ∙ ap (λ (fs : List (List ℕ)). k ∷ joined fs) same
+    ∙ ap (λ (l : List ℕ). k ∷ l) (joined-cut (fieldWidths k) body)
     ∙ sym (ap₂ (λ (n : ℕ) (l : List ℕ). take n l) (one-add (bodyLength k)) split)

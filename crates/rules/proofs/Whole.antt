@@ -3,19 +3,21 @@
 use mathlib.Core.Bool.{Bool, true, false, cond, _&&_, _||_}
 use mathlib.Core.List.{List, [], _∷_, _++_}
 use mathlib.Core.Logic.{_⊎_, inl, inr, ⊎-elim}
-use mathlib.Core.Path.{_≡_, refl, _∙_, subst}
+use mathlib.Core.Path.{_≡_, refl, _∙_, ap, subst}
 use Prim.Native.Nat.{ℕ, zero, suc, _+_, _≤_, _<_, zero-le}
 use native.Mathlib.Nat.{not-suc-le-zero, le-of-suc-le-suc, eq-zero-or-pos}
 use native.Mathlib.Omega.{arith}
 use borrow.Author.Tests.{ltb-true, leb-true, eqb-true}
 use lib.Dec.{eqb, leb, ltb}
 use lib.IntN.{ℤ, pos, negsuc, natAbs}
-use lib.ListN.{length, getD, drop, length-append}
+use lib.ListN.{length, getD, drop, length-append, length-drop}
+use Rattle.rules.specs.Accepted.{NoneRefuses}
 use Rattle.rules.specs.Flows.{Flows, flowsInRange, silentIsZero}
 use Rattle.rules.specs.Gln.{validGln}
 use Rattle.rules.specs.Limits.{greatestArea, earliestYear, latestYear, monthsOfAYear, mostHours, mostParties, greatestShare, greatestEnergy, greatestPrice, longestFile}
 use Rattle.rules.specs.MonthFile.{MonthFile, nothingYet, H, P, due, recordChecks, with, isEnd, closed, onward, readOn, readMonth}
-use Rattle.rules.specs.Record.{Heading, Party, Reading, Record, heading, party, fixedHour, reading, price, refixedHour, end, inRange, glnRight, spanRight, energyRight, recordAt, fieldChecks, bodyLength}
+use Rattle.rules.specs.Record.{Heading, Party, Reading, Record, heading, party, fixedHour, reading, price, refixedHour, end, bodyLength, recordAt}
+use Rattle.rules.specs.Record.{inFile, headingInRange, hourInRange, checks}
 use Rattle.rules.specs.Refusals.{Refusal, fileFault, Verdict, accepted, refused, Answer, given, refusal, first}
 use Rattle.rules.specs.Words.{within, withinℤ}
 use Rattle.rules.proofs.Refusals.{accepted-exactly, unless-exactly}
@@ -77,7 +79,7 @@ abbrev pub ReadingRight : ℕ → ℕ → Reading → Type 0
 ReadingRight hours parties r = (r .party < parties) × (r .a < r .b) × (r .b ≤ hours) × (r .e ≤ greatestEnergy)
 
 abbrev pub HeadingRight : Heading → Type 0
-HeadingRight h = inRange 0 0 (heading h) ≡ true
+HeadingRight h = headingInRange h ≡ true
 
 pub record HeadingFacts (h : Heading) : Type 0 where
   pub area : (1 ≤ h .area) × (h .area ≤ greatestArea)
@@ -88,7 +90,7 @@ pub record HeadingFacts (h : Heading) : Type 0 where
   pub carrier : h .carrier < h .parties
 
 pub heading-facts : (h : Heading) → HeadingRight h → HeadingFacts h
-unfolding inRange
+unfolding headingInRange
 heading-facts h e =
     let area = within 1 greatestArea (h .area) in
     let year = within earliestYear latestYear (h .year) in
@@ -100,7 +102,14 @@ heading-facts h e =
     let t3 = both-pass (area && year && month) hours (t4 .0) in
     let t2 = both-pass (area && year) month (t3 .0) in
     let t1 = both-pass area year (t2 .0) in
-    record { area = within-is 1 greatestArea (h .area) (t1 .0); year = within-is earliestYear latestYear (h .year) (t1 .1); month = within-is 1 monthsOfAYear (h .month) (t2 .1); hours = within-is 1 mostHours (h .hours) (t3 .1); parties = within-is 1 mostParties (h .parties) (t4 .1); carrier = ltb-true (h .carrier) (h .parties) (t5 .1) }
+    record {
+      area = within-is 1 greatestArea (h .area) (t1 .0);
+      year = within-is earliestYear latestYear (h .year) (t1 .1);
+      month = within-is 1 monthsOfAYear (h .month) (t2 .1);
+      hours = within-is 1 mostHours (h .hours) (t3 .1);
+      parties = within-is 1 mostParties (h .parties) (t4 .1);
+      carrier = ltb-true (h .carrier) (h .parties) (t5 .1);
+    }
 
 -- How many of each kind there are, of a file of h hours and p parties: a parties, f fixed and r refixed hours, q prices, g readings.
 pub record Counts (h p a f r q g : ℕ) : Type 0 where
@@ -127,31 +136,108 @@ module _ {h p a f r q g : ℕ} (c : Counts h p a f r q g) where
 
   one-party : a < p → Counts h p (suc a) f r q g
   one-party b =
-      record { parties = b; fixed = c .fixed; refixed = c .refixed; prices = c .prices; parties-first = λ x. absurd (omega (arith, c .parties-first x)); fixed-first = c .fixed-first; fixed-priced = c .fixed-priced; refixed-priced = c .refixed-priced; prices-first = c .prices-first; headed = c .headed }
+      record {
+        parties = b;
+        fixed = c .fixed;
+        refixed = c .refixed;
+        prices = c .prices;
+        parties-first = λ x. absurd (omega (arith, c .parties-first x));
+        fixed-first = c .fixed-first;
+        fixed-priced = c .fixed-priced;
+        refixed-priced = c .refixed-priced;
+        prices-first = c .prices-first;
+        headed = c .headed;
+      }
 
   one-fixed : a ≡ p → f < h → Counts h p a (suc f) r q g
   one-fixed e b =
-      record { parties = c .parties; fixed = b; refixed = c .refixed; prices = c .prices; parties-first = λ x. e; fixed-first = λ x. absurd (omega (arith, c .fixed-first x)); fixed-priced = λ x. absurd (omega (arith, c .fixed-priced x)); refixed-priced = c .refixed-priced; prices-first = c .prices-first; headed = c .headed }
+      record {
+        parties = c .parties;
+        fixed = b;
+        refixed = c .refixed;
+        prices = c .prices;
+        parties-first = λ x. e;
+        fixed-first = λ x. absurd (omega (arith, c .fixed-first x));
+        fixed-priced = λ x. absurd (omega (arith, c .fixed-priced x));
+        refixed-priced = c .refixed-priced;
+        prices-first = c .prices-first;
+        headed = c .headed;
+      }
 
   one-refixed : f ≡ h → r < h → q ≡ 0 → Counts h p a f (suc r) q g
   one-refixed e b z =
-      record { parties = c .parties; fixed = c .fixed; refixed = b; prices = c .prices; parties-first = c .parties-first; fixed-first = λ x. e; fixed-priced = c .fixed-priced; refixed-priced = λ x y. absurd (omega arith); prices-first = c .prices-first; headed = c .headed }
+      record {
+        parties = c .parties;
+        fixed = c .fixed;
+        refixed = b;
+        prices = c .prices;
+        parties-first = c .parties-first;
+        fixed-first = λ x. e;
+        fixed-priced = c .fixed-priced;
+        refixed-priced = λ x y. absurd (omega arith);
+        prices-first = c .prices-first;
+        headed = c .headed;
+      }
 
   one-price : f ≡ h → (r ≡ 0) ⊎ (r ≡ h) → q < h → Counts h p a f r (suc q) g
   one-price e none-or-all b =
-      record { parties = c .parties; fixed = c .fixed; refixed = c .refixed; prices = b; parties-first = c .parties-first; fixed-first = c .fixed-first; fixed-priced = λ x. e; refixed-priced = λ x y. ⊎-elim (λ (z : r ≡ 0). absurd (omega arith)) (λ (w : r ≡ h). w) none-or-all; prices-first = λ x. absurd (omega (arith, c .prices-first x .0)); headed = c .headed }
+      record {
+        parties = c .parties;
+        fixed = c .fixed;
+        refixed = c .refixed;
+        prices = b;
+        parties-first = c .parties-first;
+        fixed-first = c .fixed-first;
+        fixed-priced = λ x. e;
+        refixed-priced = λ x y. ⊎-elim (λ (z : r ≡ 0). absurd (omega arith)) (λ (w : r ≡ h). w) none-or-all;
+        prices-first = λ x. absurd (omega (arith, c .prices-first x .0));
+        headed = c .headed;
+      }
 
   one-reading : q ≡ h → 0 < h → Counts h p a f r q (suc g)
   one-reading e b =
-      record { parties = c .parties; fixed = c .fixed; refixed = c .refixed; prices = c .prices; parties-first = c .parties-first; fixed-first = c .fixed-first; fixed-priced = c .fixed-priced; refixed-priced = c .refixed-priced; prices-first = λ x. (e, b); headed = c .headed }
+      record {
+        parties = c .parties;
+        fixed = c .fixed;
+        refixed = c .refixed;
+        prices = c .prices;
+        parties-first = c .parties-first;
+        fixed-first = c .fixed-first;
+        fixed-priced = c .fixed-priced;
+        refixed-priced = c .refixed-priced;
+        prices-first = λ x. (e, b);
+        headed = c .headed;
+      }
 
 none-counted : {h p : ℕ} → 0 < h → Counts h p 0 0 0 0 0
 none-counted {h} {p} b =
-    record { parties = zero-le; fixed = zero-le; refixed = zero-le; prices = zero-le; parties-first = λ x. absurd (omega arith); fixed-first = λ x. absurd (omega arith); fixed-priced = λ x. absurd (omega arith); refixed-priced = λ x y. absurd (omega arith); prices-first = λ x. absurd (omega arith); headed = λ z. absurd (omega arith) }
+    record {
+      parties = zero-le;
+      fixed = zero-le;
+      refixed = zero-le;
+      prices = zero-le;
+      parties-first = λ x. absurd (omega arith);
+      fixed-first = λ x. absurd (omega arith);
+      fixed-priced = λ x. absurd (omega arith);
+      refixed-priced = λ x y. absurd (omega arith);
+      prices-first = λ x. absurd (omega arith);
+      headed = λ z. absurd (omega arith);
+    }
 
 nothing-counted : Counts 0 0 0 0 0 0 0
 nothing-counted =
-    record { parties = zero-le; fixed = zero-le; refixed = zero-le; prices = zero-le; parties-first = λ x. refl; fixed-first = λ x. refl; fixed-priced = λ x. refl; refixed-priced = λ x y. refl; prices-first = λ x. absurd (omega arith); headed = λ z. refl }
+    record {
+      parties = zero-le;
+      fixed = zero-le;
+      refixed = zero-le;
+      prices = zero-le;
+      parties-first = λ x. refl;
+      fixed-first = λ x. refl;
+      fixed-priced = λ x. refl;
+      refixed-priced = λ x y. refl;
+      prices-first = λ x. absurd (omega arith);
+      headed = λ z. refl;
+    }
 
 pub record Sound (m : MonthFile) : Type 0 where
   pub counts : Counts (H m) (P m) (length (m .parties)) (length (m .fixed)) (length (m .refixed)) (length (m .prices)) (length (m .readings))
@@ -180,53 +266,132 @@ unfolding nothingYet H P
 nothing-is-sound =
     record { counts = nothing-counted; head = λ x. absurd (omega arith); parties = tt; fixed = tt; refixed = tt; prices = tt; readings = tt }
 
--- One record that is due and right keeps the month sound.
-module _ (m : MonthFile) (s : Sound m) where
-  with-heading : (h : Heading) → due m (heading h) ≡ true → inRange (H m) (P m) (heading h) ≡ true → Sound (with m (heading h))
-  unfolding due with H P inRange
-  with-heading h d e =
+-- One record that is due and passes its checks keeps the month sound.
+module _ (m : MonthFile) (s : Sound m) (n : ℕ) where
+  abbrev Passes : Record → Type 0
+  Passes r = NoneRefuses (checks (inFile m n) r)
+
+  with-heading : (h : Heading) → due m (heading h) ≡ true → Passes (heading h) → Sound (with m (heading h))
+  unfolding due with H P checks
+  with-heading h d c =
       let none = before-the-heading (s .counts) (eqb-true (m .heading .hours) 0 d) in
-      record { counts = simp (none .0, none .1, none .2, none .3, none .4) (none-counted (heading-facts h e .hours .0)); head = λ x. e; parties = s .parties; fixed = s .fixed; refixed = s .refixed; prices = s .prices; readings = every-none (ReadingRight (h .hours) (h .parties)) (m .readings) (none .4) }
+      let right : HeadingRight h = unless-exactly (headingInRange h) _ _ .0 (c .0) in
+      record {
+        counts = simp (none .0, none .1, none .2, none .3, none .4) (none-counted (heading-facts h right .hours .0));
+        head = λ x. right;
+        parties = s .parties;
+        fixed = s .fixed;
+        refixed = s .refixed;
+        prices = s .prices;
+        readings = every-none (ReadingRight (h .hours) (h .parties)) (m .readings) (none .4);
+      }
 
-  with-party : (p : Party) → due m (party p) ≡ true → inRange (H m) (P m) (party p) ≡ true → glnRight (party p) ≡ true → Sound (with m (party p))
-  unfolding due with H P inRange glnRight
-  with-party p d e g =
-      record { counts = rw (one-more (m .parties) p) (one-party (s .counts) (ltb-true (length (m .parties)) (m .heading .parties) d)); head = s .head; parties = every-more PartyRight (m .parties) p (s .parties) (leb-true (p .share) greatestShare e, g); fixed = s .fixed; refixed = s .refixed; prices = s .prices; readings = s .readings }
+  with-party : (p : Party) → due m (party p) ≡ true → Passes (party p) → Sound (with m (party p))
+  unfolding due with H P checks
+  with-party p d c =
+      let share : p .share ≤ greatestShare = leb-true (p .share) greatestShare (unless-exactly (leb (p .share) greatestShare) _ _ .0 (c .0)) in
+      let valid : validGln (p .gln) ≡ true = unless-exactly (validGln (p .gln)) _ _ .0 (c .1 .0) in
+      record {
+        counts = rw (one-more (m .parties) p) (one-party (s .counts) (ltb-true (length (m .parties)) (m .heading .parties) d));
+        head = s .head;
+        parties = every-more PartyRight (m .parties) p (s .parties) (share, valid);
+        fixed = s .fixed;
+        refixed = s .refixed;
+        prices = s .prices;
+        readings = s .readings;
+      }
 
-  flows-right : (hour : ℕ) (f : Flows) → ltb hour (H m) && flowsInRange f && silentIsZero f ≡ true → FlowsRight f
+  flows-right : (hour : ℕ) (f : Flows) → hourInRange (H m) hour f ≡ true → FlowsRight f
+  unfolding hourInRange
   flows-right hour f e =
       let outer = both-pass (ltb hour (H m) && flowsInRange f) (silentIsZero f) e in
       (both-pass (ltb hour (H m)) (flowsInRange f) (outer .0) .1, outer .1)
 
-  with-fixed : (hour : ℕ) (f : Flows) → due m (fixedHour hour f) ≡ true → inRange (H m) (P m) (fixedHour hour f) ≡ true → Sound (with m (fixedHour hour f))
-  unfolding due with H P inRange
-  with-fixed hour f d e =
+  with-fixed : (hour : ℕ) (f : Flows) → due m (fixedHour hour f) ≡ true → Passes (fixedHour hour f) → Sound (with m (fixedHour hour f))
+  unfolding due with H P checks
+  with-fixed hour f d c =
       let tests = both-pass _ (ltb (length (m .fixed)) (H m)) (both-pass _ (eqb hour (length (m .fixed))) d .0) in
-      record { counts = rw (one-more (m .fixed) f) (one-fixed (s .counts) (eqb-true (length (m .parties)) (P m) (tests .0)) (ltb-true (length (m .fixed)) (H m) (tests .1))); head = s .head; parties = s .parties; fixed = every-more FlowsRight (m .fixed) f (s .fixed) (flows-right hour f e); refixed = s .refixed; prices = s .prices; readings = s .readings }
+      let all : length (m .parties) ≡ P m = eqb-true (length (m .parties)) (P m) (tests .0) in
+      let right : FlowsRight f = flows-right hour f (unless-exactly (hourInRange (H m) hour f) _ _ .0 (c .0)) in
+      record {
+        counts = rw (one-more (m .fixed) f) (one-fixed (s .counts) all (ltb-true (length (m .fixed)) (H m) (tests .1)));
+        head = s .head;
+        parties = s .parties;
+        fixed = every-more FlowsRight (m .fixed) f (s .fixed) right;
+        refixed = s .refixed;
+        prices = s .prices;
+        readings = s .readings;
+      }
 
-  with-refixed : (hour : ℕ) (f : Flows) → due m (refixedHour hour f) ≡ true → inRange (H m) (P m) (refixedHour hour f) ≡ true → Sound (with m (refixedHour hour f))
-  unfolding due with H P inRange
-  with-refixed hour f d e =
+  with-refixed : (hour : ℕ) (f : Flows) → due m (refixedHour hour f) ≡ true → Passes (refixedHour hour f) → Sound (with m (refixedHour hour f))
+  unfolding due with H P checks
+  with-refixed hour f d c =
       let outer = both-pass _ (eqb (length (m .prices)) 0) (both-pass _ (eqb hour (length (m .refixed))) d .0) in
       let inner = both-pass (eqb (length (m .fixed)) (H m)) (ltb (length (m .refixed)) (H m)) (outer .0) in
-      record { counts = rw (one-more (m .refixed) f) (one-refixed (s .counts) (eqb-true (length (m .fixed)) (H m) (inner .0)) (ltb-true (length (m .refixed)) (H m) (inner .1)) (eqb-true (length (m .prices)) 0 (outer .1))); head = s .head; parties = s .parties; fixed = s .fixed; refixed = every-more FlowsRight (m .refixed) f (s .refixed) (flows-right hour f e); prices = s .prices; readings = s .readings }
+      let all : length (m .fixed) ≡ H m = eqb-true (length (m .fixed)) (H m) (inner .0) in
+      let more : length (m .refixed) < H m = ltb-true (length (m .refixed)) (H m) (inner .1) in
+      let right : FlowsRight f = flows-right hour f (unless-exactly (hourInRange (H m) hour f) _ _ .0 (c .0)) in
+      record {
+        counts = rw (one-more (m .refixed) f) (one-refixed (s .counts) all more (eqb-true (length (m .prices)) 0 (outer .1)));
+        head = s .head;
+        parties = s .parties;
+        fixed = s .fixed;
+        refixed = every-more FlowsRight (m .refixed) f (s .refixed) right;
+        prices = s .prices;
+        readings = s .readings;
+      }
 
-  with-price : (hour : ℕ) (z : ℤ) → due m (price hour z) ≡ true → inRange (H m) (P m) (price hour z) ≡ true → Sound (with m (price hour z))
-  unfolding due with H P inRange
-  with-price hour z d e =
+  none-or-all : eqb (length (m .refixed)) 0 || eqb (length (m .refixed)) (H m) ≡ true → (length (m .refixed) ≡ 0) ⊎ (length (m .refixed) ≡ H m)
+  none-or-all e =
+      ⊎-elim (λ t. inl (eqb-true (length (m .refixed)) 0 t)) (λ t. inr (eqb-true (length (m .refixed)) (H m) t))
+      (one-passes (eqb (length (m .refixed)) 0) (eqb (length (m .refixed)) (H m)) e)
+
+  with-price : (hour : ℕ) (z : ℤ) → due m (price hour z) ≡ true → Passes (price hour z) → Sound (with m (price hour z))
+  unfolding due with H P checks
+  with-price hour z d c =
       let outer = both-pass _ (ltb (length (m .prices)) (H m)) (both-pass _ (eqb hour (length (m .prices))) d .0) in
-      let inner = both-pass (eqb (length (m .fixed)) (H m)) (eqb (length (m .refixed)) 0 || eqb (length (m .refixed)) (H m)) (outer .0) in
-      let none-or-all : (length (m .refixed) ≡ 0) ⊎ (length (m .refixed) ≡ H m) = ⊎-elim (λ t. inl (eqb-true (length (m .refixed)) 0 t)) (λ t. inr (eqb-true (length (m .refixed)) (H m) t)) (one-passes (eqb (length (m .refixed)) 0) (eqb (length (m .refixed)) (H m)) (inner .1)) in
-      record { counts = rw (one-more (m .prices) z) (one-price (s .counts) (eqb-true (length (m .fixed)) (H m) (inner .0)) none-or-all (ltb-true (length (m .prices)) (H m) (outer .1))); head = s .head; parties = s .parties; fixed = s .fixed; refixed = s .refixed; prices = every-more PriceRight (m .prices) z (s .prices) (both-pass (ltb hour (H m)) (withinℤ greatestPrice z) e .1); readings = s .readings }
+      let refixed = eqb (length (m .refixed)) 0 || eqb (length (m .refixed)) (H m) in
+      let inner = both-pass (eqb (length (m .fixed)) (H m)) refixed (outer .0) in
+      let all : length (m .fixed) ≡ H m = eqb-true (length (m .fixed)) (H m) (inner .0) in
+      let more : length (m .prices) < H m = ltb-true (length (m .prices)) (H m) (outer .1) in
+      let range = unless-exactly (ltb hour (H m) && withinℤ greatestPrice z) _ _ .0 (c .0) in
+      let right : PriceRight z = both-pass (ltb hour (H m)) (withinℤ greatestPrice z) range .1 in
+      record {
+        counts = rw (one-more (m .prices) z) (one-price (s .counts) all (none-or-all (inner .1)) more);
+        head = s .head;
+        parties = s .parties;
+        fixed = s .fixed;
+        refixed = s .refixed;
+        prices = every-more PriceRight (m .prices) z (s .prices) right;
+        readings = s .readings;
+      }
 
-  with-reading : (r : Reading) → due m (reading r) ≡ true → inRange (H m) (P m) (reading r) ≡ true → spanRight (H m) (reading r) ≡ true → energyRight (reading r) ≡ true → Sound (with m (reading r))
-  unfolding due with H P inRange spanRight energyRight
-  with-reading r d e w x =
+  reading-right : (r : Reading) → Passes (reading r) → ReadingRight (H m) (P m) r
+  unfolding checks
+  reading-right r c =
+      let whose = unless-exactly (ltb (r .party) (P m)) _ _ .0 (c .0) in
+      let spans = unless-exactly (ltb (r .a) (r .b) && leb (r .b) (H m)) _ _ .0 (c .1 .0) in
+      let energy = unless-exactly (leb (r .e) greatestEnergy) _ _ .0 (c .1 .1 .0) in
+      let span = both-pass (ltb (r .a) (r .b)) (leb (r .b) (H m)) spans in
+      (ltb-true (r .party) (P m) whose, ltb-true (r .a) (r .b) (span .0), leb-true (r .b) (H m) (span .1), leb-true (r .e) greatestEnergy energy)
+
+  with-reading : (r : Reading) → due m (reading r) ≡ true → Passes (reading r) → Sound (with m (reading r))
+  unfolding due with H P
+  with-reading r d c =
       let tests = both-pass (leb 1 (H m)) (eqb (length (m .prices)) (H m)) d in
-      let span = both-pass (ltb (r .a) (r .b)) (leb (r .b) (H m)) w in
-      record { counts = rw (one-more (m .readings) r) (one-reading (s .counts) (eqb-true (length (m .prices)) (H m) (tests .1)) (leb-true 1 (H m) (tests .0))); head = s .head; parties = s .parties; fixed = s .fixed; refixed = s .refixed; prices = s .prices; readings = every-more (ReadingRight (H m) (P m)) (m .readings) r (s .readings) (ltb-true (r .party) (P m) e, ltb-true (r .a) (r .b) (span .0), leb-true (r .b) (H m) (span .1), leb-true (r .e) greatestEnergy x) }
+      let all : length (m .prices) ≡ H m = eqb-true (length (m .prices)) (H m) (tests .1) in
+      record {
+        counts = rw (one-more (m .readings) r) (one-reading (s .counts) all (leb-true 1 (H m) (tests .0)));
+        head = s .head;
+        parties = s .parties;
+        fixed = s .fixed;
+        refixed = s .refixed;
+        prices = s .prices;
+        readings = every-more (ReadingRight (H m) (P m)) (m .readings) r (s .readings) (reading-right r c);
+      }
 
-  -- where the end record is due, all is there
+-- Where the end record is due, all is there.
+module _ (m : MonthFile) (s : Sound m) where
   at-the-end : (count : ℕ) → due m (end count) ≡ true → Whole m
   unfolding due H P
   at-the-end count d =
@@ -235,19 +400,30 @@ module _ (m : MonthFile) (s : Sound m) where
       let all : length (m .prices) ≡ H m = eqb-true (length (m .prices)) (H m) (tests .1) in
       let priced : 0 < length (m .prices) = omega arith in
       let all-fixed : length (m .fixed) ≡ H m = s .counts .fixed-priced priced in
-      let none-or-all : (length (m .refixed) ≡ 0) ⊎ (length (m .refixed) ≡ H m) = ⊎-elim (λ z. inl z) (λ b. inr (s .counts .refixed-priced priced b)) (eq-zero-or-pos (length (m .refixed))) in
-      record { head = s .head some; all-parties = s .counts .parties-first (omega arith); all-fixed = all-fixed; none-or-all-refixed = none-or-all; all-prices = all; parties = s .parties; fixed = s .fixed; refixed = s .refixed; prices = s .prices; readings = s .readings }
+      let refixed : (length (m .refixed) ≡ 0) ⊎ (length (m .refixed) ≡ H m) = ⊎-elim (λ z. inl z) (λ b. inr (s .counts .refixed-priced priced b)) (eq-zero-or-pos (length (m .refixed))) in
+      record {
+        head = s .head some;
+        all-parties = s .counts .parties-first (omega arith);
+        all-fixed = all-fixed;
+        none-or-all-refixed = refixed;
+        all-prices = all;
+        parties = s .parties;
+        fixed = s .fixed;
+        refixed = s .refixed;
+        prices = s .prices;
+        readings = s .readings;
+      }
 
--- A record of any kind that passes its checks.
-pub step : (m : MonthFile) → Sound m → (r : Record) → due m r ≡ true → inRange (H m) (P m) r ≡ true → glnRight r ≡ true → spanRight (H m) r ≡ true → energyRight r ≡ true → Sound (with m r)
+-- A record of any kind that is due and passes its checks.
+pub step : (m : MonthFile) → Sound m → (n : ℕ) (r : Record) → due m r ≡ true → NoneRefuses (checks (inFile m n) r) → Sound (with m r)
 unfolding with
-step m s (heading h) d e g w x = with-heading m s h d e
-step m s (party p) d e g w x = with-party m s p d e g
-step m s (fixedHour hour f) d e g w x = with-fixed m s hour f d e
-step m s (reading r) d e g w x = with-reading m s r d e w x
-step m s (price hour z) d e g w x = with-price m s hour z d e
-step m s (refixedHour hour f) d e g w x = with-refixed m s hour f d e
-step m s (end count) d e g w x = s
+step m s n (heading h) d c = with-heading m s n h d c
+step m s n (party p) d c = with-party m s n p d c
+step m s n (fixedHour hour f) d c = with-fixed m s n hour f d c
+step m s n (reading r) d c = with-reading m s n r d c
+step m s n (price hour z) d c = with-price m s n hour z d c
+step m s n (refixedHour hour f) d c = with-refixed m s n hour f d c
+step m s n (end count) d c = s
 
 pub given-not-refusal : {m : MonthFile} {r : Refusal} {place : ℕ} → refusal r place ≡ given m → ⊥
 given-not-refusal e = let z : _≡_ {A = ℕ} 0 1 = cc in omega arith
@@ -279,7 +455,7 @@ past-one m s (refixedHour hour f) n after rest d s′ ih e = ih s′ e
 past-one m s (end count) n after rest d s′ ih e = subst Whole (closed-gives m n after e) (at-the-end m s count d)
 
 read-on-whole : (more : ℕ) (bytes : List ℕ) (n : ℕ) (m : MonthFile) → Sound m → {m′ : MonthFile} → readOn more bytes n m ≡ given m′ → Whole m′
-unfolding readOn recordChecks fieldChecks
+unfolding readOn recordChecks
 read-on-whole zero bytes n m s e = absurd (given-not-refusal e)
 read-on-whole (suc more) [] n m s e = absurd (given-not-refusal e)
 read-on-whole (suc more) (kind ∷ body) n m s {m′} e =
@@ -287,7 +463,7 @@ read-on-whole (suc more) (kind ∷ body) n m s {m′} e =
     let on = went-on (first (recordChecks m n (kind ∷ body))) _ e in
     let passed = accepted-exactly (recordChecks m n (kind ∷ body)) .0 (on .0) in
     let d : due m r ≡ true = unless-exactly (due m r) _ _ .0 (passed .1 .1 .0) in
-    let s′ : Sound (with m r) = step m s r d (unless-exactly (inRange (H m) (P m) r) _ _ .0 (passed .1 .1 .1 .0)) (unless-exactly (glnRight r) _ _ .0 (passed .1 .1 .1 .1 .0)) (unless-exactly (spanRight (H m) r) _ _ .0 (passed .1 .1 .1 .1 .1 .0)) (unless-exactly (energyRight r) _ _ .0 (passed .1 .1 .1 .1 .1 .1 .0)) in
+    let s′ : Sound (with m r) = step m s n r d (passed .1 .1 .1) in
     past-one m s r (suc n) (drop (bodyLength kind) body) (readOn more (drop (bodyLength kind) body) (suc n) (with m r)) d s′
     (λ s″. read-on-whole more (drop (bodyLength kind) body) (suc n) (with m r) s″)
     (on .1)
@@ -300,3 +476,19 @@ of-the-right-length false bytes e = absurd (given-not-refusal e)
 pub what-is-read-is-whole : (bytes : List ℕ) {m : MonthFile} → readMonth bytes ≡ given m → Whole m
 unfolding readMonth
 what-is-read-is-whole bytes e = of-the-right-length (within 1 longestFile (length bytes)) bytes e
+
+-- THE BOUND OF `readOn` IS ENOUGH: from the number of bytes on, it does not matter how large it is
+pub bound-is-enough : (a b : ℕ) (bytes : List ℕ) (n : ℕ) (m : MonthFile) → length bytes ≤ a → length bytes ≤ b → readOn a bytes n m ≡ readOn b bytes n m
+unfolding readOn
+bound-is-enough zero zero bytes n m x y = refl
+bound-is-enough zero (suc b) [] n m x y = refl
+bound-is-enough zero (suc b) (kind ∷ body) n m x y = absurd (omega arith)
+bound-is-enough (suc a) zero [] n m x y = refl
+bound-is-enough (suc a) zero (kind ∷ body) n m x y = absurd (omega arith)
+bound-is-enough (suc a) (suc b) [] n m x y = refl
+bound-is-enough (suc a) (suc b) (kind ∷ body) n m x y =
+    let left : List ℕ = drop (bodyLength kind) body in
+    let fewer : length left ≤ length body = omega (arith, length-drop (bodyLength kind) body) in
+    let r : Record = recordAt (kind ∷ body) in
+    ap (λ (rest : Answer MonthFile). onward (first (recordChecks m n (kind ∷ body))) (cond (isEnd r) (closed m (suc n) left) rest))
+    (bound-is-enough a b left (suc n) (with m r) (omega arith) (omega arith))

@@ -15,7 +15,8 @@ use Rattle.rules.specs.Refusals.{Verdict, accepted, refused, Answer, giv
 use Rattle.rules.specs.Statement.{decimal, signedDecimal, newline, refusalLine, headingLine, joined}
 use Rattle.rules.specs.Words.{sum, sumℤ, figures, ascii}
 
--- "Which hours were measured?": a status in words. A month with a missing hour is refused, so there are two.
+-- "Which hours were measured?": a status in words. A month with a missing hour is refused (7) and has no report, so there are two words: of status 0 nothing
+-- is asked here (law `every-hour-has-its-figure`), and what is written for it means nothing.
 unfoldable pub statusWord : ℕ → List ℕ
 statusWord status = cond (eqb status estimated) (ascii "estimated") (ascii "measured")
 
@@ -32,22 +33,17 @@ unfoldable pub partsText : ℤ → ℕ → ℤ → List ℕ
 partsText allDistributed allPeriodised loss =
     ascii " " ++ signedDecimal allDistributed ++ ascii " " ++ decimal allPeriodised ++ ascii " " ++ signedDecimal loss
 
-unfoldable pub hourText : ℕ → ℕ → ℕ → ℕ → ℕ → ℕ → ℤ → ℕ → ℤ → List ℕ
-hourText hour fixedStatus appliedStatus fixed applied curveNumber allDistributed allPeriodised loss =
-    statusesText hour fixedStatus appliedStatus ++ seriesText fixed applied curveNumber
-    ++ partsText allDistributed allPeriodised loss
-    ++ newline
-
 -- the sum of the distributed of an hour
 unfoldable pub allDistributed : MonthFile → ℕ → ℤ
 allDistributed m t = sumℤ (P m) (distributed m t)
 
+-- a line for each hour
 unfoldable pub hourLine : MonthFile → ℕ → List ℕ
 hourLine m t =
-    hourText t (flowsAt (m .fixed) t .status) (appliedFlows m t .status) (fixedWh m t) (appliedWh m t) (curve m t)
-    (allDistributed m t)
-    (allPeriodised m t)
-    (loss m t)
+    statusesText t (flowsAt (m .fixed) t .status) (appliedFlows m t .status)
+    ++ seriesText (fixedWh m t) (appliedWh m t) (curve m t)
+    ++ partsText (allDistributed m t) (allPeriodised m t) (loss m t)
+    ++ newline
 
 -- "Has any supplier been pushed the same way ..?": how far a party's running sum is from its exact share once the first `hours` hours have passed, in
 -- W-ths of a Wh: above 0 where it has too much, below 0 where it has too little

@@ -1,23 +1,19 @@
--- One record of the month file (01 "The month file"): its kinds, body lengths, fields, bytes, and the rule of its fields.
-use mathlib.Core.Bool.{Bool, true, cond, _&&_}
+-- WHAT A RECORD KIND IS (01 "The month file"), all of it here: its number, its fields and their widths, the record that its fields are and back, what a
+-- record adds to the month, when it is due and what is tested of it. A new kind is one entry or clause of `layouts`, `Record`, `recordFrom`, `kindOf`,
+-- `fieldsOf`, `with`, `due` and `checks`.
+use mathlib.Core.Bool.{Bool, true, cond, _&&_, _||_}
 use mathlib.Core.List.{List, [], _∷_, _++_}
 use Prim.Native.Nat.{ℕ, zero, suc, _+_, _-_, _*_, _^_, _/_, _%_}
 use lib.Dec.{eqb, leb, ltb}
 use lib.IntN.{ℤ, pos, negsuc}
 use lib.ListN.{length, getD, take, drop}
 use Rattle.rules.specs.Flows.{Flows, flowsInRange, silentIsZero}
-use Rattle.rules.specs.Gln.{validGln}
-use Rattle.rules.specs.Limits.{greatestArea, earliestYear, latestYear, monthsOfAYear, mostHours, mostParties, greatestShare, greatestEnergy, greatestPrice}
-use Rattle.rules.specs.Refusals.{fileFault, unknownKind, outOfRange, glnFault, spanFault, energyTooLarge, wrongLength, Verdict, Answer, unless, first, answer}
-use Rattle.rules.specs.Words.{at, within, withinℤ}
+use Rattle.rules.specs.Gln.{validGln, rises}
+use Rattle.rules.specs.Limits.{greatestArea, earliestYear, latestYear, monthsOfAYear, mostHours, mostParties, greatestShare, greatestEnergy, greatestPrice, glnDigits}
+use Rattle.rules.specs.Refusals.{fileFault, unknownKind, outOfRange, glnFault, spanFault, energyTooLarge, wrongCount, wrongLength, Verdict, Answer, unless, first, answer}
+use Rattle.rules.specs.Words.{at, within, withinℤ, joined}
 
--- "The body lengths, by kind, are these": the length at each kind byte, and 0 for an unknown kind.
-unfoldable pub bodyLength : ℕ → ℕ
-bodyLength kind = at (0 ∷ 9 ∷ 21 ∷ 35 ∷ 9 ∷ 6 ∷ 35 ∷ 4 ∷ []) kind
-
-unfoldable pub known : ℕ → Bool
-known kind = leb 1 (bodyLength kind)
-
+-- THE KINDS: "One byte of kind, then a body."
 abbrev pub headingKind : ℕ
 headingKind = 1
 
@@ -39,7 +35,44 @@ refixedHourKind = 6
 abbrev pub endKind : ℕ
 endKind = 7
 
--- "01 heading: area 2, year 2, month 1, hours H 2, parties P 1, loss carrier 1"
+-- "03 fixed hour: hour 2, status 1, net supply 8, production 8, hourly 8, flex 8", "06 refixed hour: as 03"
+abbrev pub hourWidths : List ℕ
+hourWidths = 2 ∷ 1 ∷ 8 ∷ 8 ∷ 8 ∷ 8 ∷ []
+
+-- The table of 01, "kind", "fields (bytes)": each kind with the number of bytes of each of its fields, in order. "01 heading: area 2, year 2, month 1,
+-- hours H 2, parties P 1, loss carrier 1", "02 party: GLN 13 ASCII digits, load share 8", "04 reading: party 1, a 2, b 2, E 4", "05 price: hour 2, price 4",
+-- "07 end: number of records before it 4".
+unfoldable pub layouts : List (ℕ × List ℕ)
+layouts =
+    (headingKind, 2 ∷ 2 ∷ 1 ∷ 2 ∷ 1 ∷ 1 ∷ [])
+    ∷ (partyKind, glnDigits ∷ 8 ∷ [])
+    ∷ (fixedHourKind, hourWidths)
+    ∷ (readingKind, 1 ∷ 2 ∷ 2 ∷ 4 ∷ [])
+    ∷ (priceKind, 2 ∷ 4 ∷ [])
+    ∷ (refixedHourKind, hourWidths)
+    ∷ (endKind, 4 ∷ [])
+    ∷ []
+
+-- the widths that a table has for a kind: none for a kind that is not in it
+unfoldable pub widthsIn : List (ℕ × List ℕ) → ℕ → List ℕ
+widthsIn [] kind = []
+widthsIn (entry ∷ more) kind = cond (eqb (entry .0) kind) (entry .1) (widthsIn more kind)
+
+unfoldable pub fieldWidths : ℕ → List ℕ
+fieldWidths kind = widthsIn layouts kind
+
+-- "The body lengths, by kind, are these": a body is its fields one after the other. (Law `lengths-are`: 9, 21, 35, 9, 6, 35, 4.) Of an unknown kind it is 0.
+unfoldable pub totalOf : List ℕ → ℕ
+totalOf [] = 0
+totalOf (width ∷ widths) = width + totalOf widths
+
+unfoldable pub bodyLength : ℕ → ℕ
+bodyLength kind = totalOf (fieldWidths kind)
+
+unfoldable pub known : ℕ → Bool
+known kind = leb 1 (bodyLength kind)
+
+-- THE RECORDS
 pub record Heading : Type 0 where
   pub area : ℕ
   pub year : ℕ
@@ -48,20 +81,17 @@ pub record Heading : Type 0 where
   pub parties : ℕ
   pub carrier : ℕ
 
--- "02 party: GLN 13 ASCII digits, load share 8"
 pub record Party : Type 0 where
   pub gln : List ℕ
   pub share : ℕ
 
--- "04 reading: party 1, a 2, b 2, E 4"
 pub record Reading : Type 0 where
   pub party : ℕ
   pub a : ℕ
   pub b : ℕ
   pub e : ℕ
 
--- A record, by kind. "03 fixed hour: hour 2, status 1, net supply 8, production 8, hourly 8, flex 8", "06 refixed hour: as 03",
--- "05 price: hour 2, price 4", "07 end: number of records before it 4".
+-- A record, by kind. Of an hour, a refixed hour and a price the first number is the hour field; an end has the number of records before it.
 pub data Record : Type 0 where
   heading : Heading → Record
   party : Party → Record
@@ -71,28 +101,7 @@ pub data Record : Type 0 where
   refixedHour : ℕ → Flows → Record
   end : ℕ → Record
 
--- "fields (bytes)": how many bytes each field of a kind has, in order
-unfoldable pub fieldWidths : ℕ → List ℕ
-fieldWidths kind =
-    getD
-    ([]
-    ∷ (2 ∷ 2 ∷ 1 ∷ 2 ∷ 1 ∷ 1 ∷ [])
-    ∷ (13 ∷ 8 ∷ [])
-    ∷ (2 ∷ 1 ∷ 8 ∷ 8 ∷ 8 ∷ 8 ∷ [])
-    ∷ (1 ∷ 2 ∷ 2 ∷ 4 ∷ [])
-    ∷ (2 ∷ 4 ∷ [])
-    ∷ (2 ∷ 1 ∷ 8 ∷ 8 ∷ 8 ∷ 8 ∷ [])
-    ∷ (4 ∷ [])
-    ∷ [])
-    kind
-    []
-
--- a body cut into its fields
-unfoldable pub cutInto : List ℕ → List ℕ → List (List ℕ)
-cutInto [] body = []
-cutInto (width ∷ widths) body = take width body ∷ cutInto widths (drop width body)
-
--- "Numbers are big-endian": the first byte counts most
+-- NUMBERS AS BYTES. "Numbers are big-endian": the first byte counts most
 unfoldable pub numberOnto : ℕ → List ℕ → ℕ
 numberOnto before [] = before
 numberOnto before (byte ∷ rest) = numberOnto (before * 256 + byte) rest
@@ -110,113 +119,243 @@ unfoldable pub unsigned : ℕ → ℤ → ℕ
 unsigned width (pos n) = n
 unsigned width (negsuc n) = 256 ^ width - 1 - n
 
--- the k-th field as bytes, and as a number
+-- READING A RECORD: its body is cut into its fields by their widths
+unfoldable pub cutInto : List ℕ → List ℕ → List (List ℕ)
+cutInto [] body = []
+cutInto (width ∷ widths) body = take width body ∷ cutInto widths (drop width body)
+
+-- the k-th field as bytes, as a number, and as a number that may be negative
 unfoldable pub field : List (List ℕ) → ℕ → List ℕ
 field fields k = getD fields k []
 
 unfoldable pub numberAt : List (List ℕ) → ℕ → ℕ
 numberAt fields k = numberOnto 0 (field fields k)
 
+unfoldable pub signedAt : List (List ℕ) → ℕ → ℤ
+signedAt fields k = signed (length (field fields k)) (numberAt fields k)
+
+unfoldable pub headingFrom : List (List ℕ) → Heading
+headingFrom fields =
+    record { area = numberAt fields 0; year = numberAt fields 1; month = numberAt fields 2; hours = numberAt fields 3; parties = numberAt fields 4; carrier = numberAt fields 5 }
+
 unfoldable pub flowsFrom : List (List ℕ) → Flows
 flowsFrom fields =
-    record { status = numberAt fields 1; net = signed 8 (numberAt fields 2); production = numberAt fields 3; hourly = numberAt fields 4; flex = numberAt fields 5 }
+    record { status = numberAt fields 1; net = signedAt fields 2; production = numberAt fields 3; hourly = numberAt fields 4; flex = numberAt fields 5 }
 
--- the record that a kind and its fields are (of an unknown kind nothing is asked: it is refused first)
+unfoldable pub readingFrom : List (List ℕ) → Reading
+readingFrom fields = record { party = numberAt fields 0; a = numberAt fields 1; b = numberAt fields 2; e = numberAt fields 3 }
+
+-- An unknown kind is no record and is refused (2) before its record is asked for. A definition has to give something: this, which nothing looks at.
+unfoldable pub neverAsked : Record
+neverAsked = end 0
+
+-- the record that a kind and its fields are
 unfoldable pub recordFrom : ℕ → List (List ℕ) → Record
 recordFrom kind fields =
-    cond (eqb kind headingKind)
-    (heading
-    (record { area = numberAt fields 0; year = numberAt fields 1; month = numberAt fields 2; hours = numberAt fields 3; parties = numberAt fields 4; carrier = numberAt fields 5 }))
+    cond (eqb kind headingKind) (heading (headingFrom fields))
     (cond (eqb kind partyKind) (party (record { gln = field fields 0; share = numberAt fields 1 }))
     (cond (eqb kind fixedHourKind) (fixedHour (numberAt fields 0) (flowsFrom fields))
-    (cond (eqb kind readingKind)
-    (reading (record { party = numberAt fields 0; a = numberAt fields 1; b = numberAt fields 2; e = numberAt fields 3 }))
-    (cond (eqb kind priceKind) (price (numberAt fields 0) (signed 4 (numberAt fields 1)))
-    (cond (eqb kind refixedHourKind) (refixedHour (numberAt fields 0) (flowsFrom fields)) (end (numberAt fields 0)))))))
+    (cond (eqb kind readingKind) (reading (readingFrom fields))
+    (cond (eqb kind priceKind) (price (numberAt fields 0) (signedAt fields 1))
+    (cond (eqb kind refixedHourKind) (refixedHour (numberAt fields 0) (flowsFrom fields))
+    (cond (eqb kind endKind) (end (numberAt fields 0)) neverAsked))))))
 
--- "One byte of kind, then a body": the record that stands at the start of some bytes
+-- the kind and the record that stand at the start of some bytes
 unfoldable pub kindAt : List ℕ → ℕ
 kindAt bytes = at bytes 0
 
 unfoldable pub recordAt : List ℕ → Record
 recordAt bytes = recordFrom (kindAt bytes) (cutInto (fieldWidths (kindAt bytes)) (drop 1 bytes))
 
-unfoldable pub flowsBytes : ℕ → Flows → List ℕ
-flowsBytes hour f =
-    bytesOf 2 hour ++ bytesOf 1 (f .status) ++ bytesOf 8 (unsigned 8 (f .net)) ++ bytesOf 8 (f .production)
-    ++ bytesOf 8 (f .hourly) ++ bytesOf 8 (f .flex)
+-- WRITING A RECORD: what stands in a field is a number, a number that may be negative, or digits as they are
+pub data Field : Type 0 where
+  number : ℕ → Field
+  signedNumber : ℤ → Field
+  digits : List ℕ → Field
 
--- a record's bytes: its kind and its body
+unfoldable pub fieldBytes : ℕ → Field → List ℕ
+fieldBytes width (number n) = bytesOf width n
+fieldBytes width (signedNumber z) = bytesOf width (unsigned width z)
+fieldBytes width (digits bytes) = bytes
+
+-- each field in its width
+unfoldable pub inWidths : List ℕ → List Field → List (List ℕ)
+inWidths [] fields = []
+inWidths (width ∷ widths) [] = []
+inWidths (width ∷ widths) (f ∷ fields) = fieldBytes width f ∷ inWidths widths fields
+
+-- a record's kind, and its fields in order
+abbrev pub kindOf : Record → ℕ
+kindOf (heading h) = headingKind
+kindOf (party p) = partyKind
+kindOf (fixedHour hour f) = fixedHourKind
+kindOf (reading r) = readingKind
+kindOf (price hour p) = priceKind
+kindOf (refixedHour hour f) = refixedHourKind
+kindOf (end count) = endKind
+
+unfoldable pub hourFields : ℕ → Flows → List Field
+hourFields hour f =
+    number hour ∷ number (f .status) ∷ signedNumber (f .net) ∷ number (f .production) ∷ number (f .hourly) ∷ number (f .flex) ∷ []
+
+unfoldable pub fieldsOf : Record → List Field
+fieldsOf (heading h) =
+    number (h .area) ∷ number (h .year) ∷ number (h .month) ∷ number (h .hours) ∷ number (h .parties) ∷ number (h .carrier) ∷ []
+fieldsOf (party p) = digits (p .gln) ∷ number (p .share) ∷ []
+fieldsOf (fixedHour hour f) = hourFields hour f
+fieldsOf (reading r) = number (r .party) ∷ number (r .a) ∷ number (r .b) ∷ number (r .e) ∷ []
+fieldsOf (price hour p) = number hour ∷ signedNumber p ∷ []
+fieldsOf (refixedHour hour f) = hourFields hour f
+fieldsOf (end count) = number count ∷ []
+
+-- a record's bytes: its kind, then its fields one after the other
 unfoldable pub recordBytes : Record → List ℕ
-recordBytes (heading h) =
-    headingKind
-    ∷ (bytesOf 2 (h .area) ++ bytesOf 2 (h .year) ++ bytesOf 1 (h .month) ++ bytesOf 2 (h .hours) ++ bytesOf 1 (h .parties)
-    ++ bytesOf 1 (h .carrier))
-recordBytes (party p) = partyKind ∷ (p .gln ++ bytesOf 8 (p .share))
-recordBytes (fixedHour hour f) = fixedHourKind ∷ flowsBytes hour f
-recordBytes (reading r) = readingKind ∷ (bytesOf 1 (r .party) ++ bytesOf 2 (r .a) ++ bytesOf 2 (r .b) ++ bytesOf 4 (r .e))
-recordBytes (price hour p) = priceKind ∷ (bytesOf 2 hour ++ bytesOf 4 (unsigned 4 p))
-recordBytes (refixedHour hour f) = refixedHourKind ∷ flowsBytes hour f
-recordBytes (end count) = endKind ∷ bytesOf 4 count
+recordBytes r = kindOf r ∷ joined (inWidths (fieldWidths (kindOf r)) (fieldsOf r))
 
--- THE RULE OF A RECORD'S FIELDS, once for a file of `hours` hours and `parties` parties and for a record alone.
+-- WHAT A RECORD ADDS TO THE MONTH
 
--- 4, "another field outside its range": "Area 1..999. Year 2000..2099. Month 1..12. H 1..745. P 1..64; loss carrier and a reading's
--- party below P. Load share 0..4,000,000,000", and so on; "the end count may be any 4 bytes".
-unfoldable pub inRange : ℕ → ℕ → Record → Bool
-inRange hours parties (heading h) =
+-- What has been read so far, and at the end the month: the heading, then a list for each kind, in file order.
+pub record MonthFile : Type 0 where
+  pub heading : Heading
+  pub parties : List Party
+  pub fixed : List Flows
+  pub refixed : List Flows
+  pub prices : List ℤ
+  pub readings : List Reading
+
+-- before the first record: H and P are 0 until the heading gives them
+unfoldable pub nothingYet : MonthFile
+nothingYet =
+    record { heading = record { area = 0; year = 0; month = 0; hours = 0; parties = 0; carrier = 0 }; parties = []; fixed = []; refixed = []; prices = []; readings = [] }
+
+-- H and P, as the heading gives them
+unfoldable pub H : MonthFile → ℕ
+H m = m .heading .hours
+
+unfoldable pub P : MonthFile → ℕ
+P m = m .heading .parties
+
+-- The month with one of its parts put anew. (A record is always written out whole here: each of these names the part that changes and copies the others.)
+abbrev pub setHeading : MonthFile → Heading → MonthFile
+setHeading m x =
+    record { heading = x; parties = m .parties; fixed = m .fixed; refixed = m .refixed; prices = m .prices; readings = m .readings }
+
+abbrev pub setParties : MonthFile → List Party → MonthFile
+setParties m x =
+    record { heading = m .heading; parties = x; fixed = m .fixed; refixed = m .refixed; prices = m .prices; readings = m .readings }
+
+abbrev pub setFixed : MonthFile → List Flows → MonthFile
+setFixed m x =
+    record { heading = m .heading; parties = m .parties; fixed = x; refixed = m .refixed; prices = m .prices; readings = m .readings }
+
+abbrev pub setRefixed : MonthFile → List Flows → MonthFile
+setRefixed m x =
+    record { heading = m .heading; parties = m .parties; fixed = m .fixed; refixed = x; prices = m .prices; readings = m .readings }
+
+abbrev pub setPrices : MonthFile → List ℤ → MonthFile
+setPrices m x =
+    record { heading = m .heading; parties = m .parties; fixed = m .fixed; refixed = m .refixed; prices = x; readings = m .readings }
+
+abbrev pub setReadings : MonthFile → List Reading → MonthFile
+setReadings m x =
+    record { heading = m .heading; parties = m .parties; fixed = m .fixed; refixed = m .refixed; prices = m .prices; readings = x }
+
+-- what has been read, with one record more
+unfoldable pub with : MonthFile → Record → MonthFile
+with m (heading h) = setHeading m h
+with m (party p) = setParties m (m .parties ++ (p ∷ []))
+with m (fixedHour hour f) = setFixed m (m .fixed ++ (f ∷ []))
+with m (reading r) = setReadings m (m .readings ++ (r ∷ []))
+with m (price hour p) = setPrices m (m .prices ++ (p ∷ []))
+with m (refixedHour hour f) = setRefixed m (m .refixed ++ (f ∷ []))
+with m (end count) = m
+
+-- THE ORDER (3, "kind or hour field out of order"). "Order: one 01; P times 02; H times 03; none or H times 06; H times 05; any number of 04; one 07. Hour
+-- fields run 0, 1, 2 and so on": whether a record is due next
+unfoldable pub due : MonthFile → Record → Bool
+due m (heading h) = eqb (H m) 0
+due m (party p) = ltb (length (m .parties)) (P m)
+due m (fixedHour hour f) = eqb (length (m .parties)) (P m) && ltb (length (m .fixed)) (H m) && eqb hour (length (m .fixed))
+due m (refixedHour hour f) =
+    eqb (length (m .fixed)) (H m) && ltb (length (m .refixed)) (H m) && eqb (length (m .prices)) 0
+    && eqb hour (length (m .refixed))
+due m (price hour p) =
+    eqb (length (m .fixed)) (H m) && (eqb (length (m .refixed)) 0 || eqb (length (m .refixed)) (H m))
+    && ltb (length (m .prices)) (H m)
+    && eqb hour (length (m .prices))
+due m (reading r) = leb 1 (H m) && eqb (length (m .prices)) (H m)
+due m (end count) = leb 1 (H m) && eqb (length (m .prices)) (H m)
+
+-- WHERE A RECORD STANDS: in a file, after what was read of it so far, as record number n; or by itself, with so many hours and parties, at a place.
+pub data Position : Type 0 where
+  inFile : MonthFile → ℕ → Position
+  byItself : ℕ → ℕ → ℕ → Position
+
+-- "There b above 745 is 11; an hour above 744 or a reading's party above 63 is 4": a record alone has the most hours and parties that a file can have
+abbrev pub alone : Position
+alone = byItself mostHours mostParties 0
+
+abbrev pub hoursOf : Position → ℕ
+hoursOf (inFile m n) = H m
+hoursOf (byItself hours parties place) = hours
+
+abbrev pub partiesOf : Position → ℕ
+partiesOf (inFile m n) = P m
+partiesOf (byItself hours parties place) = parties
+
+abbrev pub placeOf : Position → ℕ
+placeOf (inFile m n) = n
+placeOf (byItself hours parties place) = place
+
+-- "GLNs rise strictly.": a party's GLN is above that of the party before it. Of a record by itself "file order or rising GLNs" are not asked.
+unfoldable pub risesAfter : List Party → Party → Bool
+risesAfter [] p = true
+risesAfter (q ∷ []) p = rises (q .gln) (p .gln)
+risesAfter (q ∷ (q′ ∷ qs)) p = risesAfter (q′ ∷ qs) p
+
+abbrev pub risesAt : Position → Party → Bool
+risesAt (inFile m n) p = risesAfter (m .parties) p
+risesAt (byItself hours parties place) p = true
+
+-- "07 end: number of records before it". By itself "the end count may be any 4 bytes".
+abbrev pub countsAt : Position → ℕ → Bool
+countsAt (inFile m n) count = eqb count n
+countsAt (byItself hours parties place) count = true
+
+-- "Area 1..999. Year 2000..2099. Month 1..12. H 1..745. P 1..64; loss carrier .. below P."
+unfoldable pub headingInRange : Heading → Bool
+headingInRange h =
     within 1 greatestArea (h .area) && within earliestYear latestYear (h .year) && within 1 monthsOfAYear (h .month)
     && within 1 mostHours (h .hours)
     && within 1 mostParties (h .parties)
     && ltb (h .carrier) (h .parties)
-inRange hours parties (party p) = leb (p .share) greatestShare
-inRange hours parties (fixedHour hour f) = ltb hour hours && flowsInRange f && silentIsZero f
-inRange hours parties (reading r) = ltb (r .party) parties
-inRange hours parties (price hour p) = ltb hour hours && withinℤ greatestPrice p
-inRange hours parties (refixedHour hour f) = ltb hour hours && flowsInRange f && silentIsZero f
-inRange hours parties (end count) = true
 
--- 5, "GLN not digits, wrong check digit" ("a GLN not of 13 bytes is 5")
-unfoldable pub glnRight : Record → Bool
-glnRight (heading h) = true
-glnRight (party p) = validGln (p .gln)
-glnRight (fixedHour hour f) = true
-glnRight (reading r) = true
-glnRight (price hour p) = true
-glnRight (refixedHour hour f) = true
-glnRight (end count) = true
+-- an hour field below H, "Net supply -8,000,000,000..8,000,000,000; other flows 0..8,000,000,000", "With status 0 a figure other than 0 is refused with 4"
+unfoldable pub hourInRange : ℕ → ℕ → Flows → Bool
+hourInRange hours hour f = ltb hour hours && flowsInRange f && silentIsZero f
 
--- 11, "a not below b, b above H"
-unfoldable pub spanRight : ℕ → Record → Bool
-spanRight hours (heading h) = true
-spanRight hours (party p) = true
-spanRight hours (fixedHour hour f) = true
-spanRight hours (reading r) = ltb (r .a) (r .b) && leb (r .b) hours
-spanRight hours (price hour p) = true
-spanRight hours (refixedHour hour f) = true
-spanRight hours (end count) = true
-
--- 12, "E too large"
-unfoldable pub energyRight : Record → Bool
-energyRight (heading h) = true
-energyRight (party p) = true
-energyRight (fixedHour hour f) = true
-energyRight (reading r) = leb (r .e) greatestEnergy
-energyRight (price hour p) = true
-energyRight (refixedHour hour f) = true
-energyRight (end count) = true
-
--- 4, 5, 11, 12, in that order
-unfoldable pub fieldChecks : ℕ → ℕ → Record → ℕ → List Verdict
-fieldChecks hours parties r place =
-    unless (inRange hours parties r) outOfRange place
-    ∷ unless (glnRight r) glnFault place
-    ∷ unless (spanRight hours r) spanFault place
-    ∷ unless (energyRight r) energyTooLarge place
+-- THE CHECKS OF A RECORD'S FIELDS, kind by kind, each list in the order "4, 5, 11, 12, 15" (5: "GLN not digits, wrong check digit, not rising").
+unfoldable pub checks : Position → Record → List Verdict
+checks here (heading h) = unless (headingInRange h) outOfRange (placeOf here) ∷ []
+checks here (party p) =
+    unless (leb (p .share) greatestShare) outOfRange (placeOf here)
+    ∷ unless (validGln (p .gln)) glnFault (placeOf here)
+    ∷ unless (risesAt here p) glnFault (placeOf here)
     ∷ []
+checks here (fixedHour hour f) = unless (hourInRange (hoursOf here) hour f) outOfRange (placeOf here) ∷ []
+checks here (reading r) =
+    unless (ltb (r .party) (partiesOf here)) outOfRange (placeOf here)
+    ∷ unless (ltb (r .a) (r .b) && leb (r .b) (hoursOf here)) spanFault (placeOf here)
+    ∷ unless (leb (r .e) greatestEnergy) energyTooLarge (placeOf here)
+    ∷ []
+checks here (price hour p) =
+    unless (ltb hour (hoursOf here) && withinℤ greatestPrice p) outOfRange (placeOf here) ∷ []
+checks here (refixedHour hour f) = unless (hourInRange (hoursOf here) hour f) outOfRange (placeOf here) ∷ []
+checks here (end count) = unless (countsAt here count) wrongCount (placeOf here) ∷ []
+
+-- ONE RECORD ALONE
 
 -- "One record can also be read alone, by 2, 1 and then the same rules (an empty part is 1); bytes after it are not looked at."
--- There "b above 745 is 11; an hour above 744 or a reading's party above 63 is 4": the most hours and parties that a file can have.
 unfoldable pub readAlone : List ℕ → Answer Record
 readAlone bytes =
     answer
@@ -224,13 +363,12 @@ readAlone bytes =
     (unless (leb 1 (length bytes)) fileFault 0
     ∷ unless (known (kindAt bytes)) unknownKind 0
     ∷ unless (leb (1 + bodyLength (kindAt bytes)) (length bytes)) fileFault 0
-    ∷ fieldChecks mostHours mostParties (recordAt bytes) 0))
+    ∷ checks alone (recordAt bytes)))
     (recordAt bytes)
 
 -- "The record writer .. judges the fields of one record (4, 5, 11, 12)", then 16, "record writer: too short", all at place 0.
 unfoldable pub writeVerdict : Record → ℕ → Verdict
-writeVerdict r lent =
-    first (fieldChecks mostHours mostParties r 0 ++ (unless (leb (length (recordBytes r)) lent) wrongLength 0 ∷ []))
+writeVerdict r lent = first (checks alone r ++ (unless (leb (length (recordBytes r)) lent) wrongLength 0 ∷ []))
 
 -- It "takes one record's fields and a lent part, writes kind and body at its start, touches nothing further on and tells the bytes
 -- written": what the part then holds.

@@ -1,7 +1,7 @@
 -- "Called alone, each service takes residuals unsigned and tests 16 first, then 4 (H and P included), then its own" (01 "Refusal numbers"):
 -- for each service its checks in order and the figures that it gives. "Lists of unequal length are 4 at place 0, before any other 4. Else the
 -- place of 4 is the first value outside in its list, lists in the order named, or 0 for a single number; single numbers come first."
--- `lent` is the length of the lent output; the needed length is that of the list named first.
+-- `lent` is the length of the lent output. The needed length is that of the list named first, and for distribution one figure for each hour and party.
 use mathlib.Core.Bool.{Bool, _&&_, _||_}
 use mathlib.Core.List.{List, [], _∷_}
 use Prim.Native.Nat.{ℕ, _*_, _/_, _%_}
@@ -11,10 +11,12 @@ use lib.ListN.{length, getD}
 use lib.Signed.{leZ}
 use Rattle.rules.specs.Distributed.{distributedFigure}
 use Rattle.rules.specs.Flows.{Flows, silentIsZero, judged, verdictOf, residualWh, W, curveNumber}
-use Rattle.rules.specs.Limits.{estimated, greatestFlow, mostHours, mostParties, greatestShare, greatestW, greatestResidual, greatestCurveNumber, mostWeights, greatestEnergy, greatestPeriodised, greatestPrice, greatestDistributed}
+use Rattle.rules.specs.Limits.{estimated, greatestFlow, mostHours, mostParties, greatestShare, greatestW, greatestResidual}
+use Rattle.rules.specs.Limits.{greatestCurveNumber, mostWeights, greatestEnergy, greatestPeriodised, greatestPrice, greatestDistributed}
 use Rattle.rules.specs.Periodised.{periodisedFigure}
 use Rattle.rules.specs.Reconciliation.{gridLoss, differenceOf, amountMillionths}
-use Rattle.rules.specs.Refusals.{Refusal, outOfRange, wOutOfRange, residualTooLarge, curveTooLarge, spanFault, energyTooLarge, nothingToFollow, periodisedTooLarge, wrongLength, Verdict, unless, inTurn}
+use Rattle.rules.specs.Refusals.{Refusal, outOfRange, wOutOfRange, residualTooLarge, curveTooLarge, spanFault, energyTooLarge}
+use Rattle.rules.specs.Refusals.{nothingToFollow, periodisedTooLarge, wrongLength, Verdict, unless, inTurn}
 use Rattle.rules.specs.Words.{sum, sumℤ, figures, at, within, withinℤ, atMost}
 
 unfoldable pub atℤ : List ℤ → ℕ → ℤ

@@ -8,6 +8,7 @@ use Rattle.rules.specs.Month.{partyAt, monthDistributed, monthPeriodised
 use Rattle.rules.specs.MonthFile.{MonthFile, H, P, readMonth}
 use Rattle.rules.specs.Refusals.{Refusal, numberOf, Verdict, accepted, refused, Answer, given, refusal}
 use Rattle.rules.specs.Words.{sum, sumℤ, figures, ascii}
+unfoldable pub use Rattle.rules.specs.Words.{joined}
 
 -- "Numbers are printed without leading zeros, most significant digit first": the number divided by ten, then the last digit.
 -- (The first number only bounds how many digits there are; the number itself is enough.)
@@ -77,11 +78,6 @@ totalLine m =
     (sumℤ (P m) (monthLoss m))
     (sumℤ (P m) (monthDifference m))
     (sumℤ (P m) (invoice m))
-
--- lines one after the other
-unfoldable pub joined : List (List ℕ) → List ℕ
-joined [] = []
-joined (line ∷ lines) = line ++ joined lines
 
 unfoldable pub statementLines : MonthFile → List ℕ
 statementLines m = headingLine m ++ joined (figures (P m) (partyLine m)) ++ totalLine m

@@ -45,6 +45,11 @@ atMost most n = leb n most
 unfoldable pub withinℤ : ℕ → ℤ → Bool
 withinℤ most z = leZ (negℤ (pos most)) z && leZ z (pos most)
 
+-- bytes one after the other
+unfoldable pub joined : List (List ℕ) → List ℕ
+joined [] = []
+joined (l ∷ more) = l ++ joined more
+
 -- a quoted text as its bytes
 unfoldable pub ascii : String → List ℕ
 ascii Str.[] = []

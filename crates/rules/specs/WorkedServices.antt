@@ -5,10 +5,14 @@ use mathlib.Core.Path.{_≡_}
 use Prim.Native.Nat.{ℕ}
 use lib.IntN.{ℤ, pos, negsuc}
 use lib.ListN.{replicate}
-use Rattle.rules.specs.Record.{fixedHour, price, end, recordBytes, readAlone, writeVerdict, written}
-use Rattle.rules.specs.Refusals.{fileFault, unknownKind, outOfRange, glnFault, wOutOfRange, missingHour, residualNegative, residualTooLarge, curveTooLarge, spanFault, energyTooLarge, periodisedTooLarge, wrongLength, accepted, refused, given, refusal, first}
-use Rattle.rules.specs.Services.{residualChecks, residualFigures, curveChecks, distributionChecks, periodisationChecks, reconciliationChecks, reconciliationLoss, reconciliationDifferences, reconciliationAmounts}
+use Rattle.rules.specs.Record.{fixedHour, price, end, bodyLength, recordBytes, readAlone, writeVerdict, written}
+use Rattle.rules.specs.Refusals.{fileFault, unknownKind, outOfRange, glnFault, wOutOfRange, missingHour, residualNegative, residualTooLarge}
+use Rattle.rules.specs.Refusals.{curveTooLarge, spanFault, energyTooLarge, periodisedTooLarge, wrongLength, accepted, refused, given}
+use Rattle.rules.specs.Refusals.{refusal, first}
+use Rattle.rules.specs.Services.{residualChecks, residualFigures, curveChecks, distributionChecks, periodisationChecks}
+use Rattle.rules.specs.Services.{reconciliationChecks, reconciliationLoss, reconciliationDifferences, reconciliationAmounts}
 use Rattle.rules.specs.WorkedMonths.{supply, partyOf, readingOf}
+use Rattle.rules.specs.Words.{figures}
 
 -- nothing in two hours
 unfoldable pub none : List ℕ
@@ -66,6 +70,9 @@ pub record WorkedServices : Type 0 where
   pub reconciliation-amounts :
       reconciliationAmounts (pos 1950000 ∷ negsuc 3299999 ∷ pos 1350000 ∷ []) (pos 29000)
       ≡ pos 56550000000 ∷ negsuc 95699999999 ∷ pos 39150000000 ∷ []
+  -- "The body lengths, by kind, are these": 01 heading, 02 party, 03 fixed hour, 04 reading, 05 price, 06 refixed hour, 07 end; 0 for an unknown kind
+  pub body-lengths :
+      figures 9 bodyLength ≡ 0 ∷ 9 ∷ 21 ∷ 35 ∷ 9 ∷ 6 ∷ 35 ∷ 4 ∷ 0 ∷ []
   -- one record alone: an empty part is 1; 2 before 1; bytes after it are not looked at; 744 and 745, 63 and 64
   pub alone-empty : readAlone [] ≡ refusal fileFault 0
   pub alone-unknown : readAlone (8 ∷ []) ≡ refusal unknownKind 0

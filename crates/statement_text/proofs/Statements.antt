@@ -13,7 +13,7 @@ use Rattle.answer.specs.declared.Refusal.{Refusal}
 use Rattle.answer.specs.declared.Refusal.the-variants.{WrongLength}
 use Rattle.month_sums.specs.Outcomes.{OutcomeIs}
 use Rattle.month_sums.specs.declared.Outcome.{Outcome}
-use Rattle.file_sections.specs.Fields.{Accepted}
+use Rattle.file_sections.specs.Walk.{Accepted}
 use Rattle.file_sections.specs.declared.Sections.{Sections}
 use Rattle.file_sections.proofs.AcceptedFile.{read-as, heading-text}
 use Rattle.rules.specs.Month.{monthOf, monthVerdict, verdictOn, fileVerdict}

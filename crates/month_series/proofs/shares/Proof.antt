@@ -2,7 +2,8 @@
 use Prim.Native.Nat.{_-_}
 use mathlib.Core.Path.{_≡_, sym, _∙_}
 use lib.ListN.{length}
-use Rattle.file_sections.proofs.AcceptedFile.{parties-are, share-read}
+use Rattle.file_sections.proofs.AcceptedFile.{parties-are}
+use Rattle.file_fields.proofs.FieldsRead.{share-read}
 use Rattle.rules.specs.Month.{monthOf, shareOf}
 use Rattle.rules.specs.MonthFile.{P}
 use Rattle.rules.proofs.Loops.{Filling, fill-start, fill-next, fill-end}

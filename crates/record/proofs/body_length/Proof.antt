@@ -8,7 +8,7 @@ use borrow.Author.Needs.{needs}
 use lib.Dec.{eqb, eqb→eq}
 use lib.ListN.{getD, replicate}
 use Rattle.rules.specs.Record.{bodyLength}
-use Rattle.rules.specs.Words as Words
+use Rattle.rules.proofs.EachKind.{body-lengths}
 use Rattle.record.proofs.BodyShort.{body-short}
 use Rattle.record.proofs.EveryEntry.{at}
 use Rattle.record.proofs.body_length.Statement.{statement}
@@ -18,11 +18,11 @@ table : List ℕ
 table = 0 ∷ 9 ∷ 21 ∷ 35 ∷ 9 ∷ 6 ∷ 35 ∷ 4 ∷ replicate 248 0
 
 right : ℕ → ℕ → Bool
-unfolding bodyLength Words.at
+unfolding body-lengths
 right k x = eqb x (bodyLength k)
 
 entry : (kind : ℕ) → kind < 256 → getD table kind 0 ≡ bodyLength kind
-unfolding table right bodyLength Words.at
+unfolding table right body-lengths
 entry kind h = eqb→eq (getD table kind 0) (bodyLength kind) (at right table tt kind h)
 
 array-read-result : tie.Need-array-read-result

@@ -5,10 +5,11 @@ use lib.ListN.{getD}
 use mir.Facts.{toZ-ofZ}
 use mir.Syntax.{w64}
 use mir.Val.{SFits}
-use Rattle.rules.specs.Words.{at}
-use Rattle.record_service.specs.Plain.{fieldCount}
 use mathlib.Core.Path.{_≡_, _∙_, ap}
 use native.Mathlib.Omega.{arith}
+use Rattle.rules.specs.Record.{endKind}
+use Rattle.rules.proofs.EachKind.{body-lengths}
+use Rattle.record_service.specs.Plain.{fieldCount}
 use Rattle.record_service.proofs.PlainOne.{wrong-length, wrong-sign, no-end, end-count}
 use borrow.Author.Needs.{needs}
 use Rattle.record_service.proofs.list_right.Statement.{statement}
@@ -18,7 +19,7 @@ field-count-requires : tie.Need-field-count-requires
 field-count-requires c κs = search needs
 
 returns : tie.Need-returns
-returns c = wrong-length (c .before .before .args .kind) (c .before .before .args .numbers .now) (c .before .field-count .ensures) (c .if1 .taken)
+returns c = wrong-length (c .before .before .args .sort) (c .before .before .args .numbers .now) (c .before .field-count .ensures) (c .if1 .taken)
 
 signed-place-requires : tie.Need-signed-place-requires
 signed-place-requires c κs = search needs
@@ -27,20 +28,20 @@ signs-right-requires : tie.Need-signs-right-requires
 signs-right-requires c κs = search needs
 
 returns-2 : tie.Need-returns-2
-returns-2 c = wrong-sign (c .before .before .before .before .before .args .kind) (c .before .before .before .before .before .args .numbers .now) (c .before .before .before .before .field-count .ensures) (c .before .before .before .if1 .left) (c .before .before .signed-place .ensures) (c .before .signs-right .ensures) (c .if2 .taken)
+returns-2 c = wrong-sign (c .before .before .before .before .before .args .sort) (c .before .before .before .before .before .args .numbers .now) (c .before .before .before .before .field-count .ensures) (c .before .before .before .if1 .left) (c .before .before .signed-place .ensures) (c .before .signs-right .ensures) (c .if2 .taken)
 
 returns-3 : tie.Need-returns-3
-returns-3 c = no-end (c .before .before .before .before .before .before .args .kind) (c .before .before .before .before .before .before .args .numbers .now) (c .before .before .before .before .before .field-count .ensures) (c .before .before .before .before .if1 .left) (c .before .before .before .signed-place .ensures) (c .before .before .signs-right .ensures) (c .before .if2 .left) (c .if3 .taken)
+returns-3 c = no-end (c .before .before .before .before .before .before .args .sort) (c .before .before .before .before .before .before .args .numbers .now) (c .before .before .before .before .before .field-count .ensures) (c .before .before .before .before .if1 .left) (c .before .before .before .signed-place .ensures) (c .before .before .signs-right .ensures) (c .before .if2 .left) (c .if3 .taken)
 
 shared-slice-copy-out-not-above-end : tie.Need-shared-slice-copy-out-not-above-end
-unfolding fieldCount at
-shared-slice-copy-out-not-above-end c = let e : c .before .before .before .before .before .before .args .kind ≡ 7 = omega arith in omega (arith, c .before .before .before .before .before .field-count .ensures ∙ ap fieldCount e)
+unfolding fieldCount body-lengths
+shared-slice-copy-out-not-above-end c = omega (arith, c .before .before .before .before .before .field-count .ensures ∙ ap fieldCount (c .if3 .left))
 
 not-above-end-requires : tie.Need-not-above-end-requires
 not-above-end-requires c κs = search needs
 
 returns-4 : tie.Need-returns-4
-returns-4 c = let f : SFits w64 (getD (c .before .before .before .before .before .before .before .before .args .numbers .now) 0 (pos 0)) = search needs in end-count (c .before .before .before .before .before .before .before .before .args .kind) (c .before .before .before .before .before .before .before .before .args .numbers .now) (c .before .before .before .before .before .before .before .field-count .ensures) (c .before .before .before .before .before .before .if1 .left) (c .before .before .before .before .before .signed-place .ensures) (c .before .before .before .before .signs-right .ensures) (c .before .before .before .if2 .left) (omega arith) (c .not-above-end .ensures ∙ ap (λ z. leb (natAbs z) 4294967295) (toZ-ofZ f))
+returns-4 c = let f : SFits w64 (getD (c .before .before .before .before .before .before .before .before .args .numbers .now) 0 (pos 0)) = search needs in end-count (c .before .before .before .before .before .before .before .before .args .sort) (c .before .before .before .before .before .before .before .before .args .numbers .now) (c .before .before .before .before .before .before .before .field-count .ensures) (c .before .before .before .before .before .before .if1 .left) (c .before .before .before .before .before .signed-place .ensures) (c .before .before .before .before .signs-right .ensures) (c .before .before .before .if2 .left) (c .before .before .if3 .left) (c .not-above-end .ensures ∙ ap (λ z. leb (natAbs z) 4294967295) (toZ-ofZ f))
 
 pub list-right-spec : {M : Type 1} → statement M
 list-right-spec =

@@ -6,52 +6,52 @@ use mir.Facts.{toZ-ofZ}
 use mir.Syntax.{w64}
 use mir.Val.{SFits}
 use Rattle.record.specs.declared.Record.the-variants.{Heading, Party, FixedHour, Reading, RefixedHour, End}
-use Rattle.rules.specs.Words.{at}
+use Rattle.rules.proofs.EachKind.{body-lengths, last-kind}
 use Rattle.record_service.specs.Plain.{fieldCount, plainRecord}
 use native.Mathlib.Omega.{arith}
-use mathlib.Core.Path.{_≡_, _∙_, ap, ap₂}
+use mathlib.Core.Path.{_∙_, ap, ap₂}
 use Rattle.record_service.proofs.record_of.Statement.{statement}
 use Rattle.record_service.proofs.record_of.Tie as tie
 
 heading-of-requires : tie.Need-heading-of-requires
-unfolding fieldCount at
-heading-of-requires c κs = omega (arith, c .before .pre .2 ∙ ap fieldCount (c .match .keys1))
+unfolding fieldCount body-lengths
+heading-of-requires c κs = omega (arith, c .before .pre .1 ∙ ap fieldCount (c .match .keys1))
 
 u64-of-requires : tie.Need-u64-of-requires
-unfolding fieldCount at
-u64-of-requires c κs = omega (arith, c .before .pre .2 ∙ ap fieldCount (c .match .keys2))
+unfolding fieldCount body-lengths
+u64-of-requires c κs = omega (arith, c .before .pre .1 ∙ ap fieldCount (c .match .keys2))
 
 u16-of-requires : tie.Need-u16-of-requires
-unfolding fieldCount at
-u16-of-requires c κs = omega (arith, c .before .pre .2 ∙ ap fieldCount (c .match .keys3))
+unfolding fieldCount body-lengths
+u16-of-requires c κs = omega (arith, c .before .pre .1 ∙ ap fieldCount (c .match .keys3))
 
 flows-of-requires : tie.Need-flows-of-requires
-unfolding fieldCount at
-flows-of-requires c κs = omega (arith, c .before .before .pre .2 ∙ ap fieldCount (c .before .match .keys3))
+unfolding fieldCount body-lengths
+flows-of-requires c κs = omega (arith, c .before .before .pre .1 ∙ ap fieldCount (c .before .match .keys3))
 
 reading-of-requires : tie.Need-reading-of-requires
-unfolding fieldCount at
-reading-of-requires c κs = omega (arith, c .before .pre .2 ∙ ap fieldCount (c .match .keys4))
+unfolding fieldCount body-lengths
+reading-of-requires c κs = omega (arith, c .before .pre .1 ∙ ap fieldCount (c .match .keys4))
 
 u16-of-requires-2 : tie.Need-u16-of-requires-2
-unfolding fieldCount at
-u16-of-requires-2 c κs = omega (arith, c .before .pre .2 ∙ ap fieldCount (c .match .keys5))
+unfolding fieldCount body-lengths
+u16-of-requires-2 c κs = omega (arith, c .before .pre .1 ∙ ap fieldCount (c .match .keys5))
 
 shared-slice-copy-out-t11 : tie.Need-shared-slice-copy-out-t11
-unfolding fieldCount at
-shared-slice-copy-out-t11 c = omega (arith, c .before .before .pre .2 ∙ ap fieldCount (c .before .match .keys5))
+unfolding fieldCount body-lengths
+shared-slice-copy-out-t11 c = omega (arith, c .before .before .pre .1 ∙ ap fieldCount (c .before .match .keys5))
 
 u16-of-requires-3 : tie.Need-u16-of-requires-3
-unfolding fieldCount at
-u16-of-requires-3 c κs = omega (arith, c .before .pre .2 ∙ ap fieldCount (c .match .keys6))
+unfolding fieldCount body-lengths
+u16-of-requires-3 c κs = omega (arith, c .before .pre .1 ∙ ap fieldCount (c .match .keys6))
 
 flows-of-requires-2 : tie.Need-flows-of-requires-2
-unfolding fieldCount at
-flows-of-requires-2 c κs = omega (arith, c .before .before .pre .2 ∙ ap fieldCount (c .before .match .keys6))
+unfolding fieldCount body-lengths
+flows-of-requires-2 c κs = omega (arith, c .before .before .pre .1 ∙ ap fieldCount (c .before .match .keys6))
 
 u32-of-requires : tie.Need-u32-of-requires
-unfolding fieldCount at
-u32-of-requires c κs = let e : c .before .args .kind ≡ 7 = omega arith in omega (arith, c .before .pre .2 ∙ ap fieldCount (e))
+unfolding fieldCount body-lengths
+u32-of-requires c κs = omega (arith, c .before .pre .1 ∙ ap fieldCount (last-kind _ (c .before .pre .0) (c .match .rest)))
 
 returns : tie.Need-returns
 unfolding plainRecord
@@ -79,7 +79,7 @@ returns-6 c = rw (c .before .before .match .keys6) (ap₂ RefixedHour (c .before
 
 returns-7 : tie.Need-returns-7
 unfolding plainRecord
-returns-7 c = let e : c .before .before .args .kind ≡ 7 = omega arith in rw e (ap End (c .u32-of .ensures))
+returns-7 c = rw (last-kind _ (c .before .before .pre .0) (c .before .match .rest)) (ap End (c .u32-of .ensures))
 
 pub record-of-spec : {M : Type 1} → statement M
 record-of-spec =

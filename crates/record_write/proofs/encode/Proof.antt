@@ -1,11 +1,11 @@
 -- `record_write::encode` meets its contract: each kind is written by its own function, and a record without fault fits it. Assumes nothing.
-use Rattle.rules.specs.Record.{recordBytes}
 use mir.Facts.{toZ-ofZ}
 use mir.Syntax.{w64}
 use mir.Val.{SFits}
 use Rattle.record_write.specs.Writing.{kindOf}
-use Rattle.rules.specs.Words.{at}
-use Rattle.rules.specs.Record.{bodyLength}
+use Rattle.rules.specs.Record as RRecord
+use Rattle.rules.proofs.EachKind.{body-lengths}
+use Rattle.record_write.proofs.Encoding.{record-bytes}
 use mathlib.Core.Path.{ap}
 use native.Mathlib.Omega.{arith}
 use Rattle.record_write.proofs.WriteOne.{room-of, gln-whole, price-small}
@@ -17,50 +17,50 @@ enum-known-r : tie.Need-enum-known-r
 enum-known-r c = search needs
 
 put-heading-requires : tie.Need-put-heading-requires
-unfolding bodyLength at
-put-heading-requires c κs = omega (arith, room-of (c .before .before .before .before .before .before .pre) 1 (ap kindOf (c .before .before .r .given .1)))
+unfolding body-lengths
+put-heading-requires c κs = omega (arith, room-of (c .before .before .before .before .before .before .pre) RRecord.headingKind (ap kindOf (c .before .before .r .given .1)))
 
 enum-known-r-2 : tie.Need-enum-known-r-2
 enum-known-r-2 c = search needs
 
 put-party-requires : tie.Need-put-party-requires
-unfolding bodyLength at
-put-party-requires c κs = (gln-whole (c .before .before .before .before .before .before .pre) (c .before .before .r2 .given .1), omega (arith, room-of (c .before .before .before .before .before .before .pre) 2 (ap kindOf (c .before .before .r2 .given .1))))
+unfolding body-lengths
+put-party-requires c κs = (gln-whole (c .before .before .before .before .before .before .pre) (c .before .before .r2 .given .1), omega (arith, room-of (c .before .before .before .before .before .before .pre) RRecord.partyKind (ap kindOf (c .before .before .r2 .given .1))))
 
 enum-known-r-3 : tie.Need-enum-known-r-3
 enum-known-r-3 c = search needs
 
 put-hour-requires : tie.Need-put-hour-requires
-unfolding bodyLength at
-put-hour-requires c κs = omega (arith, room-of (c .before .before .before .before .before .before .pre) 3 (ap kindOf (c .before .before .r3 .given .1)))
+unfolding body-lengths
+put-hour-requires c κs = omega (arith, room-of (c .before .before .before .before .before .before .pre) RRecord.fixedHourKind (ap kindOf (c .before .before .r3 .given .1)))
 
 enum-known-r-4 : tie.Need-enum-known-r-4
 enum-known-r-4 c = search needs
 
 put-reading-requires : tie.Need-put-reading-requires
-unfolding bodyLength at
-put-reading-requires c κs = omega (arith, room-of (c .before .before .before .before .before .before .pre) 4 (ap kindOf (c .before .before .r4 .given .1)))
+unfolding body-lengths
+put-reading-requires c κs = omega (arith, room-of (c .before .before .before .before .before .before .pre) RRecord.readingKind (ap kindOf (c .before .before .r4 .given .1)))
 
 enum-known-r-5 : tie.Need-enum-known-r-5
 enum-known-r-5 c = search needs
 
 put-price-requires : tie.Need-put-price-requires
-unfolding bodyLength at
-put-price-requires c κs = let f : SFits w64 (c .before .before .r5 .given .0 .1 .0) = search needs in (rw (toZ-ofZ f) (price-small (c .before .before .before .before .before .before .pre) (c .before .before .r5 .given .1)), omega (arith, room-of (c .before .before .before .before .before .before .pre) 5 (ap kindOf (c .before .before .r5 .given .1))))
+unfolding body-lengths
+put-price-requires c κs = let f : SFits w64 (c .before .before .r5 .given .0 .1 .0) = search needs in (rw (toZ-ofZ f) (price-small (c .before .before .before .before .before .before .pre) (c .before .before .r5 .given .1)), omega (arith, room-of (c .before .before .before .before .before .before .pre) RRecord.priceKind (ap kindOf (c .before .before .r5 .given .1))))
 
 enum-known-r-6 : tie.Need-enum-known-r-6
 enum-known-r-6 c = search needs
 
 put-hour-requires-2 : tie.Need-put-hour-requires-2
-unfolding bodyLength at
-put-hour-requires-2 c κs = omega (arith, room-of (c .before .before .before .before .before .before .pre) 6 (ap kindOf (c .before .before .r6 .given .1)))
+unfolding body-lengths
+put-hour-requires-2 c κs = omega (arith, room-of (c .before .before .before .before .before .before .pre) RRecord.refixedHourKind (ap kindOf (c .before .before .r6 .given .1)))
 
 enum-known-r-7 : tie.Need-enum-known-r-7
 enum-known-r-7 c = search needs
 
 put-end-requires : tie.Need-put-end-requires
-unfolding bodyLength at
-put-end-requires c κs = omega (arith, room-of (c .before .before .before .before .before .before .pre) 7 (ap kindOf (c .before .before .r7 .given .1)))
+unfolding body-lengths
+put-end-requires c κs = omega (arith, room-of (c .before .before .before .before .before .before .pre) RRecord.endKind (ap kindOf (c .before .before .r7 .given .1)))
 
 same-length : tie.Need-same-length
 same-length c = search needs
@@ -78,7 +78,7 @@ same-length-3 : tie.Need-same-length-3
 same-length-3 c = search needs
 
 returns-3 : tie.Need-returns-3
-unfolding recordBytes
+unfolding record-bytes
 returns-3 c = rw (c .before .before .before .before .before .r3 .given .1) (c .before .before .put-hour .ensures)
 
 same-length-4 : tie.Need-same-length-4
@@ -97,7 +97,7 @@ same-length-6 : tie.Need-same-length-6
 same-length-6 c = search needs
 
 returns-6 : tie.Need-returns-6
-unfolding recordBytes
+unfolding record-bytes
 returns-6 c = rw (c .before .before .before .before .before .r6 .given .1) (c .before .before .put-hour2 .ensures)
 
 same-length-7 : tie.Need-same-length-7

@@ -5,9 +5,6 @@ use borrow.Author.Needs.{needs}
 use Rattle.record_write.proofs.write.Statement.{statement}
 use Rattle.record_write.proofs.write.Tie as tie
 
-gln-in-requires : tie.Need-gln-in-requires
-gln-in-requires c κs = search needs
-
 fault-requires : tie.Need-fault-requires
 fault-requires c κs = search needs
 
@@ -15,7 +12,7 @@ enum-told : tie.Need-enum-told
 enum-told c = search needs
 
 put-record-requires : tie.Need-put-record-requires
-put-record-requires c κs = no-fault _ _ [] (c .before .before .before .before .gln-in .ensures) _ (c .before .before .before .fault .ensures) (c .before .enum-told .given .1)
+put-record-requires c κs = no-fault _ _ [] _ (c .before .before .before .fault .ensures) (c .before .enum-told .given .1)
 
 enum-known-a : tie.Need-enum-known-a
 enum-known-a c = search needs
@@ -24,16 +21,15 @@ same-length : tie.Need-same-length
 same-length c = search needs
 
 returns : tie.Need-returns
-returns c = verdict-of-room _ _ _ (c .before .before .before .before .before .before .before .gln-in .ensures) _ (c .before .before .before .before .before .before .fault .ensures) (c .before .before .before .before .enum-told .given .1) (c .before .before .put-record .ensures)
+returns c = verdict-of-room _ _ _ _ (c .before .before .before .before .before .before .fault .ensures) (c .before .before .before .before .enum-told .given .1) (c .before .before .put-record .ensures)
 
 returns-2 : tie.Need-returns-2
-returns-2 c = verdict-of-fault _ _ _ (c .before .before .before .before .gln-in .ensures) _ (c .before .before .before .fault .ensures) (c .before .a .given .1)
+returns-2 c = verdict-of-fault _ _ _ _ (c .before .before .before .fault .ensures) (c .before .a .given .1)
 
 pub write-spec : {M : Type 1} → statement M
 write-spec =
     tie.close
     (tie.spec
-    gln-in-requires
     fault-requires
     enum-told
     put-record-requires

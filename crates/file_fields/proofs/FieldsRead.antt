@@ -1,0 +1,57 @@
+-- What the readers of an accepted file's fields give, in the month that the file is read as: for the crates above.
+use mathlib.Core.Bool.{true, _&&_}
+use mathlib.Core.List.{List, []}
+use mathlib.Core.Path.{_≡_, _∙_, ap}
+use Prim.Native.Nat.{ℕ, _<_, _%_}
+use native.Mathlib.Omega.{arith}
+use borrow.Author.Tests.{eqb-true}
+use lib.Dec.{eqb}
+use lib.IntN.{ℤ}
+use lib.ListN.{length}
+use Rattle.record.specs.Record.{flowsOf, readingOf}
+use Rattle.record.specs.declared.Flows as CFlows
+use Rattle.record.specs.declared.Reading as CReading
+use Rattle.file_sections.specs.declared.Sections.{Sections}
+use Rattle.file_sections.specs.Walk.{Accepted}
+use Rattle.file_sections.proofs.AcceptedFile.{read-as, month-whole}
+use Rattle.file_fields.specs.Fields.{FixedIs, RefixedIs, PriceIs, ReadingIs, ShareIs, GlnIs}
+use Rattle.rules.specs.Gln.{allDigits, weightedSum, validGln}
+use Rattle.rules.specs.Limits.{glnDigits}
+use Rattle.rules.specs.Month.{monthOf, flowsAt, partyAt, priceAt, readingAt, shareOf}
+use Rattle.rules.specs.MonthFile.{P}
+use Rattle.rules.proofs.Whole.{every-at, PartyRight, both-pass}
+
+thirteen : (gln : List ℕ) → validGln gln ≡ true → length gln ≡ glnDigits
+unfolding validGln
+thirteen gln v =
+    eqb-true (length gln) glnDigits
+    (both-pass (eqb (length gln) glnDigits) (allDigits gln)
+    (both-pass (eqb (length gln) glnDigits && allDigits gln) (eqb (weightedSum gln % 10) 0) v .0) .0)
+
+module _ (file : List ℕ) (s : Sections) (ok : Accepted file s) where
+  pub fixed-read : {t : ℕ} {f : CFlows.Flows} → FixedIs file t f → flowsOf f ≡ flowsAt (monthOf file .fixed) t
+  fixed-read p = p .is (monthOf file) (read-as file s ok)
+
+  pub refixed-read : {t : ℕ} {f : CFlows.Flows} → RefixedIs file t f → flowsOf f ≡ flowsAt (monthOf file .refixed) t
+  refixed-read p = p .is (monthOf file) (read-as file s ok)
+
+  pub price-read : {t : ℕ} {z : ℤ} → PriceIs file t z → z ≡ priceAt (monthOf file) t
+  price-read p = p .is (monthOf file) (read-as file s ok)
+
+  pub reading-read : {j : ℕ} {x : CReading.Reading} → ReadingIs file j x → readingOf x ≡ readingAt (monthOf file) j
+  reading-read p = p .is (monthOf file) (read-as file s ok)
+
+  pub share-read : {i n : ℕ} → ShareIs file i n → n ≡ shareOf (monthOf file) i
+  share-read p = p .is (monthOf file) (read-as file s ok)
+
+  pub gln-read : {i : ℕ} {gln : List ℕ} → GlnIs file i gln → gln ≡ partyAt (monthOf file) i .gln
+  gln-read p = p .is (monthOf file) (read-as file s ok)
+
+  -- "GLN (13)"
+  pub gln-length : {i : ℕ} → i < P (monthOf file) → {gln : List ℕ} → GlnIs file i gln → length gln ≡ glnDigits
+  unfolding partyAt
+  gln-length {i} b {gln} is =
+      ap length (gln-read is)
+      ∙ thirteen (partyAt (monthOf file) i .gln)
+      (every-at PartyRight (monthOf file .parties) (month-whole file s ok .parties) i (record { gln = []; share = 0 })
+      (omega (arith, month-whole file s ok .all-parties)) .1)

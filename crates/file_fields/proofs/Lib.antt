@@ -1,0 +1,4 @@
+pub mod OneRecord
+pub mod Readers
+pub mod FieldsRead
+pub mod Unique

@@ -1,0 +1,67 @@
+// What stands at a place of an accepted month file (01 "The month file"): an hour's flows, a price, a reading, a load share, a GLN. Each function reads the one
+// record that stands there by its kind's own function of `record`: an accepted file has that kind there. They ask the sections that `file_sections::read`
+// gave for this file, and a place within them; to refuse by themselves they would have to read the file again.
+use file_sections::Sections;
+use record::Flows;
+use record::Reading;
+ghost use mathlib.Core.Path.{_≡_};
+ghost use Prim.Native.Nat.{_+_, _*_, _≤_};
+ghost use lib.ListN.{length, drop};
+ghost use Rattle.file_fields.specs.Fields.{FixedAsked, RefixedAsked, PriceAsked, ReadingAsked, PartyAsked, FixedIs, RefixedIs, PriceIs, ReadingIs, ShareIs, GlnIs};
+
+// The file from the k-th record of a section on, whose records have so many bytes.
+fn from_record<'a>(file: &'a [u8], section: usize, size: usize, k: usize) -> &'a [u8]
+    requires { ⌜ section + size * k + size ≤ length (now file) ⌝ }
+    ensures { λ r. ⌜ now r ≡ drop (section + size * k) (now (file .entry)) ⌝ }
+{
+    let at = section + size * k;
+    &file[at..]
+}
+
+// The status and flows of a fixed hour.
+pub fn fixed_flows(file: &[u8], s: Sections, t: usize) -> Flows
+    requires { ⌜ FixedAsked (now file) s t ⌝ }
+    ensures { λ f. ⌜ FixedIs (now (file .entry)) t f ⌝ }
+{
+    record::flows_in(from_record(file, s.fixed_at, record::HOUR_SIZE, t))
+}
+
+// The status and flows of a refixed hour.
+pub fn refixed_flows(file: &[u8], s: Sections, t: usize) -> Flows
+    requires { ⌜ RefixedAsked (now file) s t ⌝ }
+    ensures { λ f. ⌜ RefixedIs (now (file .entry)) t f ⌝ }
+{
+    record::flows_in(from_record(file, s.refixed_at, record::HOUR_SIZE, t))
+}
+
+// The price of an hour, in øre per MWh.
+pub fn price_ore(file: &[u8], s: Sections, t: usize) -> i64
+    requires { ⌜ PriceAsked (now file) s t ⌝ }
+    ensures { λ n. ⌜ PriceIs (now (file .entry)) t n ⌝ }
+{
+    record::price_in(from_record(file, s.prices_at, record::PRICE_SIZE, t))
+}
+
+// A reading.
+pub fn reading(file: &[u8], s: Sections, j: usize) -> Reading
+    requires { ⌜ ReadingAsked (now file) s j ⌝ }
+    ensures { λ x. ⌜ ReadingIs (now (file .entry)) j x ⌝ }
+{
+    record::reading_in(from_record(file, s.readings_at, record::READING_SIZE, j))
+}
+
+// A party's load share, in kWh per year.
+pub fn load_share(file: &[u8], s: Sections, i: usize) -> u64
+    requires { ⌜ PartyAsked (now file) s i ⌝ }
+    ensures { λ n. ⌜ ShareIs (now (file .entry)) i n ⌝ }
+{
+    record::share_in(from_record(file, s.parties_at, record::PARTY_SIZE, i))
+}
+
+// A party's thirteen digits, as the part of the file that holds them: they stand after the kind.
+pub fn gln_of<'a>(file: &'a [u8], s: Sections, i: usize) -> &'a [u8]
+    requires { ⌜ PartyAsked (now file) s i ⌝ }
+    ensures { λ r. ⌜ GlnIs (now (file .entry)) i (now r) ⌝ }
+{
+    gln::part_at(from_record(file, s.parties_at, record::PARTY_SIZE, i), 1)
+}

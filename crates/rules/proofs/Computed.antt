@@ -1,0 +1,127 @@
+-- What the worked cases compute with, document by document. To unfold one of these names is to unfold all that its line names, and no more is meant by it.
+use Rattle.rules.specs.Words.{sum, sumℤ, count, figures, at, within, atMost, withinℤ, joined, ascii}
+use Rattle.rules.specs.Refusals.{unless, andThen, first, inTurn, answer, afterwards}
+use Rattle.rules.specs.Flows.{residual, silentIsZero, flowsInRange, judgedBy, judged, verdictOf, residualWh, W, curveNumber, appliedSeries}
+use Rattle.rules.specs.Distributed.{roundedDown, remainder, leftOver, comesBefore, rank, oneEach, runningSum, runningAfter, distributedFigure}
+use Rattle.rules.specs.Periodised.{sumSoFar, periodisedFigure}
+use Rattle.rules.specs.Reconciliation.{gridLoss, lossOf, differenceOf, amountMillionths, invoiceOre}
+use Rattle.rules.specs.Gln.{allDigits, digitFromRight, weightFromRight, weightedSum, validGln, digitsOnto, rises}
+use Rattle.rules.specs.Services.{atℤ, sameℤ, checkAt, eachAt, checkAtℤ, eachAtℤ, flowsOf, silentCheck, hourCheck, residualChecks, residualAt, residualFigures, curveFits, curveChecks}
+use Rattle.rules.specs.Services.{curveAt, curveFigures, distributionChecks, distributedAt, distributionFigures, periodisationChecks, periodisationFigures, distributedFits}
+use Rattle.rules.specs.Services.{reconciliationChecks, reconciliationLoss, reconciliationDifferences, amountAt, reconciliationAmounts}
+use Rattle.rules.specs.Record.{layouts, widthsIn, fieldWidths, totalOf, bodyLength, known, numberOnto, bytesOf, signed, unsigned, cutInto, field, numberAt, signedAt, headingFrom}
+use Rattle.rules.specs.Record.{flowsFrom, readingFrom, neverAsked, recordFrom, kindAt, recordAt, fieldBytes, inWidths, hourFields, fieldsOf, recordBytes, nothingYet, H, P, with}
+use Rattle.rules.specs.Record.{due, risesAfter, headingInRange, hourInRange, checks, readAlone, writeVerdict, written}
+use Rattle.rules.specs.MonthFile.{recordChecks, isEnd, closed, onward, readOn, readMonth}
+use Rattle.rules.specs.Month.{partyAt, flowsAt, readingAt, priceAt, shareOf, monthW, fixedWh, appliedFlows, appliedWh, curve, distributed, weightOf, S, readingFigure, figureFor}
+use Rattle.rules.specs.Month.{periodised, allPeriodised, loss, difference, amount, monthDistributed, monthPeriodised, monthLoss, monthDifference, monthAmount, invoice, isEstimated}
+use Rattle.rules.specs.Month.{estimatedHours, hourVerdict, curveVerdict, readingVerdict, periodisedVerdict, monthChecks, monthVerdict}
+use Rattle.rules.specs.Statement.{digitsIn, decimal, signedDecimal, digitsOfWidth, newline, refusalLine, headingText, headingLine, columnsLine, partyLine, totalLine, statementLines}
+use Rattle.rules.specs.Statement.{judgedStatement, answeredStatement, statement}
+use Rattle.rules.specs.Demands.{exactShare}
+use Rattle.rules.specs.HoursReport.{statusWord, statusesText, seriesText, partsText, allDistributed, hourLine, distanceAfter, distanceAt, smaller, larger, smallest, largest}
+use Rattle.rules.specs.HoursReport.{smallestDistance, largestDistance, fraction, distancesText, distancesLine, reportLines, judgedReport, answeredReport, hoursReport}
+
+unfoldable pub words : Unit {0}
+unfolding sum sumℤ count figures at within atMost withinℤ joined ascii unless andThen first inTurn answer afterwards
+words = tt
+
+unfoldable pub hours-1 : Unit {0}
+unfolding residual silentIsZero flowsInRange judgedBy judged verdictOf residualWh W curveNumber appliedSeries sumSoFar periodisedFigure gridLoss lossOf
+hours-1 = tt
+
+unfoldable pub hours-2 : Unit {0}
+unfolding differenceOf amountMillionths invoiceOre
+hours-2 = tt
+
+unfoldable pub hours : Unit {0}
+unfolding hours-1 hours-2
+hours = tt
+
+unfoldable pub parts-1 : Unit {0}
+unfolding roundedDown remainder leftOver comesBefore rank oneEach runningSum runningAfter distributedFigure allDigits digitFromRight weightFromRight
+parts-1 = tt
+
+unfoldable pub parts-2 : Unit {0}
+unfolding weightedSum validGln digitsOnto rises
+parts-2 = tt
+
+unfoldable pub parts : Unit {0}
+unfolding parts-1 parts-2
+parts = tt
+
+unfoldable pub services-1 : Unit {0}
+unfolding atℤ sameℤ checkAt eachAt checkAtℤ eachAtℤ flowsOf silentCheck hourCheck residualChecks residualAt residualFigures curveFits curveChecks curveAt
+services-1 = tt
+
+unfoldable pub services-2 : Unit {0}
+unfolding curveFigures distributionChecks distributedAt distributionFigures periodisationChecks periodisationFigures distributedFits reconciliationChecks
+services-2 = tt
+
+unfoldable pub services-3 : Unit {0}
+unfolding reconciliationLoss reconciliationDifferences amountAt reconciliationAmounts
+services-3 = tt
+
+unfoldable pub services : Unit {0}
+unfolding services-1 services-2 services-3
+services = tt
+
+unfoldable pub records-1 : Unit {0}
+unfolding layouts widthsIn fieldWidths totalOf bodyLength known numberOnto bytesOf signed unsigned cutInto field numberAt signedAt headingFrom flowsFrom
+records-1 = tt
+
+unfoldable pub records-2 : Unit {0}
+unfolding readingFrom neverAsked recordFrom kindAt recordAt fieldBytes inWidths hourFields fieldsOf recordBytes nothingYet H P with due risesAfter
+records-2 = tt
+
+unfoldable pub records-3 : Unit {0}
+unfolding headingInRange hourInRange checks readAlone writeVerdict written
+records-3 = tt
+
+unfoldable pub records : Unit {0}
+unfolding records-1 records-2 records-3
+records = tt
+
+unfoldable pub files : Unit {0}
+unfolding recordChecks isEnd closed onward readOn readMonth
+files = tt
+
+unfoldable pub months-1 : Unit {0}
+unfolding partyAt flowsAt readingAt priceAt shareOf monthW fixedWh appliedFlows appliedWh curve distributed weightOf S readingFigure figureFor periodised
+months-1 = tt
+
+unfoldable pub months-2 : Unit {0}
+unfolding allPeriodised loss difference amount monthDistributed monthPeriodised monthLoss monthDifference monthAmount invoice isEstimated estimatedHours
+months-2 = tt
+
+unfoldable pub months-3 : Unit {0}
+unfolding hourVerdict curveVerdict readingVerdict periodisedVerdict monthChecks monthVerdict
+months-3 = tt
+
+unfoldable pub months : Unit {0}
+unfolding months-1 months-2 months-3
+months = tt
+
+unfoldable pub texts-1 : Unit {0}
+unfolding digitsIn decimal signedDecimal digitsOfWidth newline refusalLine headingText headingLine columnsLine partyLine totalLine statementLines
+texts-1 = tt
+
+unfoldable pub texts-2 : Unit {0}
+unfolding judgedStatement answeredStatement statement exactShare
+texts-2 = tt
+
+unfoldable pub texts : Unit {0}
+unfolding texts-1 texts-2
+texts = tt
+
+unfoldable pub reports-1 : Unit {0}
+unfolding statusWord statusesText seriesText partsText allDistributed hourLine distanceAfter distanceAt smaller larger smallest largest
+reports-1 = tt
+
+unfoldable pub reports-2 : Unit {0}
+unfolding smallestDistance largestDistance fraction distancesText distancesLine reportLines judgedReport answeredReport hoursReport
+reports-2 = tt
+
+unfoldable pub reports : Unit {0}
+unfolding reports-1 reports-2
+reports = tt
