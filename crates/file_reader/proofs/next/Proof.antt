@@ -122,6 +122,13 @@ module _ {M : Type 1} (𝓤 : URA M) (H : Heap 𝓤) (A : Atoms 𝓤) (W : Given
         suffices ! _ (ends-at 𝓤 H A next.ended stayed (next.clauses 𝓤 H A mem run) W y u r (tt, (tt, tt)) (tt, (tt, tt))) $ says ! e $
         move ! (1 ∷ []) $ frame ! $ nothing ! $ nothing ! $ fjoin ! $ nothing ! $ fjoin ! $ frame ! $ done !
 
+    -- what the callee ensures, and the clause of it alone
+    abbrev Says : Step → SProp 𝓤
+    Says r = ensured 𝓤 H A at.ended (at.clauses 𝓤 H A mem run) (κ, tt) (d .file, (d .at, (k, tt))) tt r
+
+    says-found : (r : Step) → ent 𝓤 (Says r) (fact 𝓤 (Found r))
+    says-found r = clause 𝓤 H A at.ended (at.clauses 𝓤 H A mem run) (κ, tt) (d .file, (d .at, (k, tt))) tt r (Found r) (λ ws. id⊢ 𝓤 _)
+
     module _ (C : Calls 𝓤 H) (Λ : Loops 𝓤 H) (fm : FmC 𝓤 H (W .laws) C) (known : Triple 𝓤 (C #file-reader·step-at) (StepAt 𝓤 H A mem run)) where
       walk :
           Holds (hasTy (T′.mir (named 0)) mach) × WT mach → Holds (hasTy K′.mir kept) × WT kept → Asked
@@ -135,14 +142,15 @@ module _ {M : Type 1} (𝓤 : URA M) (H : Heap 𝓤) (A : Atoms 𝓤) (W : Given
           move ! (10 ∷ []) $ use1 W (raw (StepAt 𝓤 H A mem run .pre to)) (apart (wt .1 .1 .0 .fits) ok) $
           calls-at ! fm (StepAt 𝓤 H A mem run) known to
           (and-then ! (load ! (from ! (stop !)) (look ! 3 refl)) (and-then ! (load ! (from ! (stop !)) (look ! 1 refl)) (and-then ! (load ! (from ! (stop !)) (look ! 5 refl)) (no-more !)))) (λ u.
-          use1 W (later (some (λ (r : Step). ((‵ (flft κ q) ⊛ ‵ ftrue) ⊛ ‵ (S.the-row .own r (u ∷ []))) ⊛ raw (ensured 𝓤 H A at.ended (at.clauses 𝓤 H A mem run) (κ, tt) (d .file, (d .at, (k, tt))) tt r)))) (id⊢ 𝓤 _) $
+          use1 W (later (some (λ (r : Step). ((‵ (flft κ q) ⊛ ‵ ftrue) ⊛ ‵ (S.the-row .own r (u ∷ []))) ⊛ raw (Says r)))) (id⊢ 𝓤 _) $
           await ! tt $ pick ! (λ r. split ! $ move ! (1 ∷ []) $
-          use1 W (raw (fact 𝓤 (Found r))) (clause 𝓤 H A at.ended (at.clauses 𝓤 H A mem run) (κ, tt) (d .file, (d .at, (k, tt))) tt r (Found r) (λ ws. id⊢ 𝓤 _)) $ heard ! (Found r) (λ e. split ! $ move ! (1 ∷ []) $
+          use1 W (raw (fact 𝓤 (Found r))) (says-found r) $ heard ! (Found r) (λ e. split ! $ move ! (1 ∷ []) $
           -- [the result; the token; _4; …; _3; …; _2; …; _1; …; room for _0; …]
           peeks ! S.the-row (Is S.the-row) (shows 𝓤 H A S.the-row) r (u ∷ []) (λ is.
           land ! (from ! (stop !)) (init ! 10 refl (EL.lawful S.the-type S′.the-laws 𝓤 H A W tt .typed r _ is .0)) $
           returns ! (look ! 10 refl) $ forget ! 2 refl $ forget ! 4 refl $ forget ! 6 refl $ forget ! 8 refl $ forget ! 10 refl $
-          move ! (10 ∷ 11 ∷ []) $ free1 ! $ move ! (8 ∷ 9 ∷ []) $ free1 ! $ move ! (6 ∷ 7 ∷ []) $ free1 ! $ move ! (4 ∷ 5 ∷ []) $ free1 ! $ move ! (2 ∷ 3 ∷ []) $ free1 ! $ free0 ! $
+          move ! (10 ∷ 11 ∷ []) $ free1 ! $ move ! (8 ∷ 9 ∷ []) $ free1 ! $ move ! (6 ∷ 7 ∷ []) $ free1 ! $
+          move ! (4 ∷ 5 ∷ []) $ free1 ! $ move ! (2 ∷ 3 ∷ []) $ free1 ! $ free0 ! $
           by ! (exits r u e))))))))))
 
   next-walks :

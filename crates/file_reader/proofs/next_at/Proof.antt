@@ -153,33 +153,54 @@ module _ {M : Type 1} (𝓤 : URA M) (H : Heap 𝓤) (A : Atoms 𝓤) (W : Given
         suffices ! _ (ends-at 𝓤 H A next-at.ended stayed (next-at.clauses 𝓤 H A mem run) W y u t (tt, (tt, (tt, tt))) (tt, (tt, (tt, tt)))) $ says ! e $
         move ! (1 ∷ []) $ frame ! $ nothing ! $ nothing ! $ fjoin ! $ nothing ! $ fjoin ! $ nothing ! $ fjoin ! $ frame ! $ done !
 
-    module _ (C : Calls 𝓤 H) (Λ : Loops 𝓤 H) (fm : FmC 𝓤 H (W .laws) C) (known-new : Triple 𝓤 (C #file-reader·new) (New 𝓤 H A mem run)) (known-next : Triple 𝓤 (C #file-reader·next) (Next 𝓤 H A mem run)) where
+    -- what each callee ensures, and the clause of it alone
+    abbrev NewSays : Reader → SProp 𝓤
+    NewSays r = ensured 𝓤 H A new.ended (new.clauses 𝓤 H A mem run) (κ, tt) (s, (n, tt)) tt r
+
+    new-says : (r : Reader) → ent 𝓤 (NewSays r) (fact 𝓤 (Stands r))
+    new-says r = clause 𝓤 H A new.ended (new.clauses 𝓤 H A mem run) (κ, tt) (s, (n, tt)) tt r (Stands r) (λ ws. id⊢ 𝓤 _)
+
+    abbrev NextFound : Reader → Step → Type 0
+    NextFound r t = Found (r .file) (r .at) t
+
+    abbrev NextSays : Reader → Step → SProp 𝓤
+    NextSays r t = ensured 𝓤 H A next.ended (next.clauses 𝓤 H A mem run) (κ, tt) (r, (k, tt)) tt t
+
+    next-says : (r : Reader) (t : Step) → ent 𝓤 (NextSays r t) (fact 𝓤 (NextFound r t))
+    next-says r t = clause 𝓤 H A next.ended (next.clauses 𝓤 H A mem run) (κ, tt) (r, (k, tt)) tt t (NextFound r t) (λ ws. id⊢ 𝓤 _)
+
+    module _ (C : Calls 𝓤 H) (Λ : Loops 𝓤 H) (fm : FmC 𝓤 H (W .laws) C)
+        (known-new : Triple 𝓤 (C #file-reader·new) (New 𝓤 H A mem run)) (known-next : Triple 𝓤 (C #file-reader·next) (Next 𝓤 H A mem run)) where
       walk :
           Is (ShrSlice (named 0) κ u8) s (v ∷ []) → n < 2 ^ 64 → Holds (hasTy K′.mir kept) × WT kept → Asked s n
           → ent 𝓤 Entry (WpFn 𝓤 H C Λ code.function (v ∷ vint w64 n ∷ kept ∷ []) Post)
       walk p fits wk ok =
           qed W (raw Entry ∷ []) ∵ enter ! C Λ code.function (v ∷ vint w64 n ∷ kept ∷ []) _ $
           alloc1 ! (λ l₀. alloc1 ! (λ l₁. alloc1 ! (λ l₂. alloc1 ! (λ l₃. alloc1 ! (λ l₄. alloc0 ! $ params1 ! $
-          pass1 ! (init ! 6 refl (shr-slice-lawful 𝓤 H A W (named 0) κ u8 .typed s (v ∷ []) p .0)) $ pass1 ! (init ! 4 refl (tt, record { fits = fits })) $ pass1 ! (init ! 2 refl wk) $ pass0 ! $
+          pass1 ! (init ! 6 refl (shr-slice-lawful 𝓤 H A W (named 0) κ u8 .typed s (v ∷ []) p .0)) $
+          pass1 ! (init ! 4 refl (tt, record { fits = fits })) $ pass1 ! (init ! 2 refl wk) $ pass0 ! $
           move ! (10 ∷ []) $ use1 W (raw (New 𝓤 H A mem run .pre to-new) ⊛ ‵ Own) goes-new $ split ! $
-          calls-at ! fm (New 𝓤 H A mem run) known-new to-new (and-then ! (load ! (from ! (stop !)) (look ! 8 refl)) (and-then ! (load ! (from ! (stop !)) (look ! 6 refl)) (no-more !))) (λ u.
-          use1 W (later (some (λ (r : Reader). ((‵ (flft κ q) ⊛ ‵ ftrue) ⊛ ‵ (B (κ, tt) .own r (u ∷ []))) ⊛ raw (ensured 𝓤 H A new.ended (new.clauses 𝓤 H A mem run) (κ, tt) (s, (n, tt)) tt r)))) (id⊢ 𝓤 _) $
+          calls-at ! fm (New 𝓤 H A mem run) known-new to-new
+          (and-then ! (load ! (from ! (stop !)) (look ! 8 refl)) (and-then ! (load ! (from ! (stop !)) (look ! 6 refl)) (no-more !))) (λ u.
+          use1 W (later (some (λ (r : Reader). ((‵ (flft κ q) ⊛ ‵ ftrue) ⊛ ‵ (B (κ, tt) .own r (u ∷ []))) ⊛ raw (NewSays r)))) (id⊢ 𝓤 _) $
           await ! tt $ pick ! (λ r. split ! $ move ! (1 ∷ []) $
-          use1 W (raw (fact 𝓤 (Stands r))) (clause 𝓤 H A new.ended (new.clauses 𝓤 H A mem run) (κ, tt) (s, (n, tt)) tt r (Stands r) (λ ws. id⊢ 𝓤 _)) $ heard ! (Stands r) (λ e. split ! $ move ! (1 ∷ []) $
+          use1 W (raw (fact 𝓤 (Stands r))) (new-says r) $ heard ! (Stands r) (λ e. split ! $ move ! (1 ∷ []) $
           -- [what the reader owns; the token; what the walk of the records owns; room for _4; …; _3; …; _2; …; _1; …; room for _0; …]
           peeks ! (B (κ, tt)) (Is (B (κ, tt))) (shows 𝓤 H A (B (κ, tt))) r (u ∷ []) (λ is.
           land ! (from ! (stop !)) (init ! 3 refl (LL.lawful (T.the-type αᵉ) (T′.the-laws αᵉ) 𝓤 H A W .typed r _ is .0)) $
           move ! (0 ∷ 1 ∷ 2 ∷ []) $ use3 W (raw (Next 𝓤 H A mem run .pre (to-next r u))) (goes-next r u (asks-it r e ok)) $
-          calls-at ! fm (Next 𝓤 H A mem run) known-next (to-next r u) (and-then ! (load ! (from ! (stop !)) (look ! 1 refl)) (and-then ! (load ! (from ! (stop !)) (look ! 3 refl)) (no-more !))) (λ u′.
-          use1 W (later (some (λ (t : Step). ((‵ (flft κ q) ⊛ ‵ ftrue) ⊛ ‵ (S.the-row .own t (u′ ∷ []))) ⊛ raw (ensured 𝓤 H A next.ended (next.clauses 𝓤 H A mem run) (κ, tt) (r, (k, tt)) tt t)))) (id⊢ 𝓤 _) $
+          calls-at ! fm (Next 𝓤 H A mem run) known-next (to-next r u)
+          (and-then ! (load ! (from ! (stop !)) (look ! 1 refl)) (and-then ! (load ! (from ! (stop !)) (look ! 3 refl)) (no-more !))) (λ u′.
+          use1 W (later (some (λ (t : Step). ((‵ (flft κ q) ⊛ ‵ ftrue) ⊛ ‵ (S.the-row .own t (u′ ∷ []))) ⊛ raw (NextSays r t)))) (id⊢ 𝓤 _) $
           await ! tt $ pick ! (λ t. split ! $ move ! (1 ∷ []) $
-          use1 W (raw (fact 𝓤 (Found (r .file) (r .at) t))) (clause 𝓤 H A next.ended (next.clauses 𝓤 H A mem run) (κ, tt) (r, (k, tt)) tt t (Found (r .file) (r .at) t) (λ ws. id⊢ 𝓤 _)) $
-          heard ! (Found (r .file) (r .at) t) (λ f. split ! $ move ! (1 ∷ []) $
+          use1 W (raw (fact 𝓤 (NextFound r t))) (next-says r t) $
+          heard ! (NextFound r t) (λ f. split ! $ move ! (1 ∷ []) $
           -- [the result; the token; _4; …; _3; …; _2; …; _1; …; room for _0; …]
           peeks ! S.the-row (Is S.the-row) (shows 𝓤 H A S.the-row) t (u′ ∷ []) (λ is′.
           land ! (from ! (stop !)) (init ! 10 refl (EL.lawful S.the-type S′.the-laws 𝓤 H A W tt .typed t _ is′ .0)) $
           returns ! (look ! 10 refl) $ forget ! 2 refl $ forget ! 4 refl $ forget ! 6 refl $ forget ! 8 refl $ forget ! 10 refl $
-          move ! (10 ∷ 11 ∷ []) $ free1 ! $ move ! (8 ∷ 9 ∷ []) $ free1 ! $ move ! (6 ∷ 7 ∷ []) $ free1 ! $ move ! (4 ∷ 5 ∷ []) $ free1 ! $ move ! (2 ∷ 3 ∷ []) $ free1 ! $ free0 ! $
+          move ! (10 ∷ 11 ∷ []) $ free1 ! $ move ! (8 ∷ 9 ∷ []) $ free1 ! $ move ! (6 ∷ 7 ∷ []) $ free1 ! $
+          move ! (4 ∷ 5 ∷ []) $ free1 ! $ move ! (2 ∷ 3 ∷ []) $ free1 ! $ free0 ! $
           by ! (exits t u′ (finds-it r t e f)))))))))))))))
 
   next-at-walks :
