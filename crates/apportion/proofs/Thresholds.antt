@@ -12,7 +12,7 @@ use borrow.Author.Tests.{eq-eqb, ne-eqb}
 use lib.Bits.{bitAnd, bitOr, or-add-and, and-le-l, and-le-r}
 use lib.Dec.{ltb}
 use lib.ListN.{getD}
-use Rattle.apportion.specs.Parts.{belowNumber, sameNumber, beforeNumber}
+use Rattle.apportion.specs.Tests.{belowNumber, sameNumber, beforeNumber}
 use Rattle.apportion.specs.Threshold.{howManyAbove, howManyAt, Threshold, Cut}
 use Rattle.rules.specs.Distributed.{rank, oneEach}
 use Rattle.rules.specs.Words.{sum, count, at}

@@ -12,7 +12,7 @@ use Rattle.answer.specs.Said.{said}
 use Rattle.answer.specs.declared.Answer.{Answer}
 use Rattle.answer.specs.declared.Answer.the-variants.{Done, Refused}
 use Rattle.answer.specs.declared.Refusal.{Refusal}
-use Rattle.apportion.specs.Shares.{wVerdict, FewShares}
+use Rattle.distribute.specs.Shares.{wVerdict, FewShares}
 use Rattle.distribute_service.specs.Service.{shapeVerdict, Distributable}
 use Rattle.rules.specs.Flows.{W}
 use Rattle.rules.specs.Limits.{mostHours, mostParties, greatestShare, greatestW, greatestResidual}

@@ -13,17 +13,11 @@ ghost use Rattle.residual_service.specs.Passes.{WithinLimitsAt, residual
 use answer::Answer;
 use answer::Refusal;
 use residual::Hour;
-use residual::MOST_HOURS;
 
-// "Each hour has a status: 0 missing, 1 measured, 2 estimated."
-const ESTIMATED: u8 = 2;
+// "Net supply -8,000,000,000..8,000,000,000"
+const GREATEST_NET_WH: i64 = limits::GREATEST_FLOW_WH as i64;
 
-// "Net supply -8,000,000,000..8,000,000,000; other flows 0..8,000,000,000."
-const GREATEST_FLOW: u64 = 8_000_000_000;
-
-const GREATEST_NET: i64 = 8_000_000_000;
-
-const LEAST_NET: i64 = -8_000_000_000;
+const LEAST_NET_WH: i64 = -GREATEST_NET_WH;
 
 // The residual of one hour of the four series of flows.
 fn residual_at(nets: &[i64], productions: &[u64], hourlies: &[u64], flexes: &[u64], t: usize) -> i64
@@ -49,7 +43,7 @@ fn answer_of(hour: Hour, place: usize) -> Answer
 fn net_in_range(net: i64) -> bool
     ensures { λ r. ⌜ r ≡ withinℤ greatestFlow net ⌝ }
 {
-    (LEAST_NET <= net) & (net <= GREATEST_NET)
+    (LEAST_NET_WH <= net) & (net <= GREATEST_NET_WH)
 }
 
 // "With status 0 a figure other than 0 is refused with 4": a missing hour has no figure.
@@ -65,7 +59,7 @@ fn statuses_in_range(statuses: &[u8]) -> Answer
 {
     let mut i = 0;
     while i < statuses.len() {
-        if ESTIMATED < statuses[i] {
+        if limits::ESTIMATED < statuses[i] {
             return Answer::Refused(Refusal::OutOfRange, i);
         }
         i += 1;
@@ -107,7 +101,7 @@ fn residual_shape(
         & (flexes == statuses)) {
         return Answer::Refused(Refusal::OutOfRange, 0);
     }
-    if !((1 <= statuses) & (statuses <= MOST_HOURS)) {
+    if !((1 <= statuses) & (statuses <= limits::MOST_HOURS)) {
         return Answer::Refused(Refusal::OutOfRange, 0);
     }
     Answer::Done
@@ -131,15 +125,23 @@ fn flows_in_range(
     let Answer::Done = by_net else {
         return by_net;
     };
-    let by_production = answer::each_at_most_u64(productions, GREATEST_FLOW, Refusal::OutOfRange);
+    let by_production = answer::each_at_most_u64(
+        productions,
+        limits::GREATEST_FLOW_WH,
+        Refusal::OutOfRange,
+    );
     let Answer::Done = by_production else {
         return by_production;
     };
-    let by_hourly = answer::each_at_most_u64(hourlies, GREATEST_FLOW, Refusal::OutOfRange);
+    let by_hourly = answer::each_at_most_u64(
+        hourlies,
+        limits::GREATEST_FLOW_WH,
+        Refusal::OutOfRange,
+    );
     let Answer::Done = by_hourly else {
         return by_hourly;
     };
-    answer::each_at_most_u64(flexes, GREATEST_FLOW, Refusal::OutOfRange)
+    answer::each_at_most_u64(flexes, limits::GREATEST_FLOW_WH, Refusal::OutOfRange)
 }
 
 // The first missing hour that has a figure: 4 at that hour.

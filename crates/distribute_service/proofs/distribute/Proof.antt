@@ -30,8 +30,8 @@ shared-slice-read-step c = search needs
 step-requires : tie.Need-step-requires Inv-loop μ-loop
 step-requires c κs = H.ready _ _ _ (c .before .before .before .before .before .before .pre) (c .before .before .loop .inv) (omega arith)
 
-put-hour-requires : tie.Need-put-hour-requires Inv-loop μ-loop
-put-hour-requires c κs = ((c .before .before .before .before .before .before .before .before .before .before .pre .startable .few), H.place-fits _ _ _ (c .before .before .before .before .before .before .before .before .before .before .pre) (c .before .before .before .before .before .before .loop .inv) (omega arith))
+put-figures-requires : tie.Need-put-figures-requires Inv-loop μ-loop
+put-figures-requires c κs = ((c .before .before .before .before .before .before .before .before .before .before .pre .startable .few), H.place-fits _ _ _ (c .before .before .before .before .before .before .before .before .before .before .pre) (c .before .before .before .before .before .before .loop .inv) (omega arith))
 
 add-place : tie.Need-add-place Inv-loop μ-loop
 add-place c = omega (arith, H.place-small _ _ _ (c .before .before .before .before .before .before .before .before .before .before .before .before .pre) (c .before .before .before .before .before .before .before .before .loop .inv) (omega arith))
@@ -43,7 +43,7 @@ loop-less : tie.Need-loop-less Inv-loop μ-loop
 loop-less c = search needs
 
 loop-again : tie.Need-loop-again Inv-loop μ-loop
-loop-again c = H.hours-next _ _ _ (c .before .before .before .before .before .before .before .before .before .before .before .before .pre) (c .before .before .before .before .before .before .before .before .loop .inv) (omega arith) (c .before .before .before .before .before .step .ensures) (c .before .put-hour .ensures)
+loop-again c = H.hours-next _ _ _ (c .before .before .before .before .before .before .before .before .before .before .before .before .pre) (c .before .before .before .before .before .before .before .before .loop .inv) (omega arith) (c .before .before .before .before .before .step .ensures) (c .before .put-figures .ensures .fills)
 
 same-length : tie.Need-same-length Inv-loop μ-loop
 same-length c = (c .before .loop .inv .filling .size) ∙ sym (c .before .before .before .before .before .pre .size)
@@ -62,7 +62,7 @@ distribute-spec =
     mul-step
     shared-slice-read-step
     step-requires
-    put-hour-requires
+    put-figures-requires
     add-place
     add-t
     loop-less
