@@ -160,7 +160,10 @@ bounded-start rest n = record { bound = zero-le; none = refl }
 pub bounded-next : {rest : List ℕ} {n most i next : ℕ} → Bounded rest n most i → i < n → (most ≤ next) × (getD rest i 0 ≤ next) → Bounded rest n next (i + 1)
 unfolding at
 bounded-next {rest} {n} {most} {i} {next} l b h =
-    record { bound = omega arith; none = rw (add-one i) (omega (arith, above-one-more i (at rest) next, above-falls i (at rest) most next (h .0), less-zero next (getD rest i 0) (h .1), l .none)) }
+    record {
+      bound = omega arith;
+      none = rw (add-one i) (omega (arith, above-one-more i (at rest) next, above-falls i (at rest) most next (h .0), less-zero next (getD rest i 0) (h .1), l .none));
+    }
 
 pub bounded-end : {rest : List ℕ} {n most i : ℕ} → Bounded rest n most i → n ≤ i → howManyAbove n (at rest) most ≡ 0
 bounded-end {rest} {n} {most} {i} l b =
@@ -175,7 +178,12 @@ pub record Counting (rest : List ℕ) (n v over i : ℕ) : Type 0 where
 pub count-start : (rest : List ℕ) (n v : ℕ) → Counting rest n v 0 n
 count-start rest n v = record { small = omega arith; counted = omega arith }
 
-pub count-next : {rest : List ℕ} {n v over i one : ℕ} → Counting rest n v over i → 0 < i → one ≡ belowNumber v (getD rest (i - 1) 0) → Counting rest n v (over + one) (i - 1)
+pub count-next :
+    {rest : List ℕ} {n v over i one : ℕ}
+    → Counting rest n v over i
+    → 0 < i
+    → one ≡ belowNumber v (getD rest (i - 1) 0)
+    → Counting rest n v (over + one) (i - 1)
 unfolding at
 count-next {rest} {n} {v} {over} {i} {one} c b e =
     let same-place : suc (i - 1) ≡ i = omega arith in

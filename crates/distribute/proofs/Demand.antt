@@ -36,7 +36,12 @@ module _ (figure : ℕ → ℕ → ℤ) (parties hours : ℕ) (share residual : 
 
   pub demand-3-of : Demand3Of figure parties hours share residual
   demand-3-of =
-      record { adds-up = λ t b. sumℤ-cong parties (λ i l. same t i b l) ∙ demand .adds-up t; rounded = λ t i b l. subst (λ (z : ℤ). (z ≡ pos (down (W parties share) (exactShare share (sum t residual) i))) ⊎ (z ≡ pos (up (W parties share) (exactShare share (sum t residual) i)))) (sym (since-first t i b l)) (demand .rounded t i); near = λ start run i b l. rw (over start run i b l) (demand .near start run i); larger = λ t i j b l l′ s. rw (since-first t j b l′, since-first t i b l) (demand .larger t i j s) }
+      record {
+        adds-up = λ t b. sumℤ-cong parties (λ i l. same t i b l) ∙ demand .adds-up t;
+        rounded = λ t i b l. rw (since-first t i b l) (demand .rounded t i);
+        near = λ start run i b l. rw (over start run i b l) (demand .near start run i);
+        larger = λ t i j b l l′ s. rw (since-first t j b l′, since-first t i b l) (demand .larger t i j s);
+      }
 
 -- A run of the carries' method from the start of a span: state t after the first t residuals.
 module _ (shares : List ℕ) (residual : ℕ → ℕ) (hours : ℕ) (state : ℕ → Carries) (first : Started shares (state 0))

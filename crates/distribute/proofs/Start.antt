@@ -51,7 +51,31 @@ module _ (shares : List ℕ) (startable : Startable shares) (share : List ℕ) (
       (w : ℕ)
       → w ≡ sum (length shares) (at share)
       → Started shares
-      (record { parties = length shares; w = w; «sum_wh» = 0; left = 0; share = share; remainder = replicate 64 0; extra = replicate 64 0; figures = replicate 64 (pos 0) })
+      (record {
+        parties = length shares;
+        w = w;
+        «sum_wh» = 0;
+        left = 0;
+        share = share;
+        remainder = replicate 64 0;
+        extra = replicate 64 0;
+        figures = replicate 64 (pos 0);
+      })
   unfolding W at
   started w e =
-      record { good = record { few = startable .few; some = omega (arith, same-sum, startable .some); w-is = e; w-fits = omega (arith, same-sum, startable .w-fits); shares = record { size = filled .size; below = λ k b. refl; past = filled .past }; remainders = filled-as (filled-nothing 0 (length shares)) (λ k b. no-remainder (length shares) (at share) k); extras = filled-as (filled-nothing 0 (length shares)) (λ k b. no-extra (length shares) (at share) k); left = none-left (length shares) (at share) }; parties = refl; share = filled; sum = refl; figures = filled-nothing (pos 0) (length shares) }
+      record {
+        good = record {
+          few = startable .few;
+          some = omega (arith, same-sum, startable .some);
+          w-is = e;
+          w-fits = omega (arith, same-sum, startable .w-fits);
+          shares = record { size = filled .size; below = λ k b. refl; past = filled .past };
+          remainders = filled-as (filled-nothing 0 (length shares)) (λ k b. no-remainder (length shares) (at share) k);
+          extras = filled-as (filled-nothing 0 (length shares)) (λ k b. no-extra (length shares) (at share) k);
+          left = none-left (length shares) (at share);
+        };
+        parties = refl;
+        share = filled;
+        sum = refl;
+        figures = filled-nothing (pos 0) (length shares);
+      }

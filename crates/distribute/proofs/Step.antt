@@ -39,7 +39,7 @@ module _ (n : ℕ) (share : ℕ → ℕ) (some : 0 < W n share) where
   remainder-moves r x k = rw (mul-add (share k) r x) (mod-add-mod (share k * r) (W n share) (share k * x))
 
 -- Everything that the step of a state c by a residual x asks and gives, from what its parts give.
-module _ (c : Carries) (x : ℕ) (ready : Ready c x) where
+module _ {c : Carries} {x : ℕ} (ready : Ready c x) where
   abbrev n : ℕ
   n = c .parties
 
@@ -72,12 +72,12 @@ module _ (c : Carries) (x : ℕ) (ready : Ready c x) where
   grown-fits k b =
       omega (arith, kept k b, remainder-fits k, w-fits, mul-le-mul (share-fits k b) (ready .at-most))
 
-  module _ (grown : List ℕ) (grown-filled : Filled 0 (grownBy (c .remainder) (c .share) x) n grown) where
+  module _ {grown : List ℕ} (grown-filled : Filled 0 (grownBy (c .remainder) (c .share) x) n grown) where
     grown-is : (k : ℕ) → k < n → at grown k ≡ remainder n share r k + share k * x
     unfolding at grownBy
     grown-is k b = grown-filled .below k b ∙ ap (λ (y : ℕ). y + share k * x) (kept k b)
 
-    module _ (quotient : List ℕ) (quotient-filled : Filled 0 (quotientBy grown (c .w)) n quotient) where
+    module _ {quotient : List ℕ} (quotient-filled : Filled 0 (quotientBy grown (c .w)) n quotient) where
       quotient-is : (k : ℕ) → k < n → at quotient k ≡ at grown k / c .w
       unfolding at quotientBy
       quotient-is k b = quotient-filled .below k b
@@ -103,12 +103,13 @@ module _ (c : Carries) (x : ℕ) (ready : Ready c x) where
       unfolding leftOver
       left-few = omega (arith, ready .good .left)
 
-      pub left-is : c .left + x - sum n (at quotient) ≡ leftOver n share (r + x)
+      -- what is left over once a total, that of the quotients, is taken away
+      pub left-is : {total : ℕ} → total ≡ sum n (at quotient) → c .left + x - total ≡ leftOver n share (r + x)
       unfolding leftOver
-      left-is =
-          omega (arith, ready .good .left, floors-are, floors-at-most n share some r, floors-at-most n share some (r + x))
+      left-is e =
+          omega (arith, e, ready .good .left, floors-are, floors-at-most n share some r, floors-at-most n share some (r + x))
 
-      module _ (rest : List ℕ) (rest-filled : Filled 0 (restBy grown quotient (c .w)) n rest) where
+      module _ {rest : List ℕ} (rest-filled : Filled 0 (restBy grown quotient (c .w)) n rest) where
         rest-is : (k : ℕ) → k < n → restBy grown quotient (c .w) k ≡ remainder n share (r + x) k
         unfolding restBy
         rest-is k b =
@@ -119,7 +120,7 @@ module _ (c : Carries) (x : ℕ) (ready : Ready c x) where
         pub rests-filled : Filled 0 (remainder n share (r + x)) n rest
         rests-filled = filled-as rest-filled rest-is
 
-        module _ (left : ℕ) (left-now : left ≡ leftOver n share (r + x)) (extra : List ℕ) (extra-filled : Filled 0 (oneEach n (at rest) left) n extra) where
+        module _ {left : ℕ} (left-now : left ≡ leftOver n share (r + x)) {extra : List ℕ} (extra-filled : Filled 0 (oneEach n (at rest) left) n extra) where
           pub extras-filled : Filled 0 (extraAfter n share (r + x)) n extra
           unfolding at
           extras-filled =
@@ -138,7 +139,11 @@ module _ (c : Carries) (x : ℕ) (ready : Ready c x) where
 
           pub parts-small : (k : ℕ) → k < n → SmallParts quotient extra (c .extra) k
           parts-small k b =
-              record { grown = omega (arith, sum-member n (at quotient) b, quotients-few, left-few, ready .sum-fits, extra-at k b, one-at-most n (remainder n share (r + x)) (leftOver n share (r + x)) k); had = omega (arith, had-at k b, one-at-most n (remainder n share r) (leftOver n share r) k) }
+              let one = one-at-most n (remainder n share (r + x)) (leftOver n share (r + x)) k in
+              record {
+                grown = omega (arith, sum-member n (at quotient) b, quotients-few, left-few, ready .sum-fits, extra-at k b, one);
+                had = omega (arith, had-at k b, one-at-most n (remainder n share r) (leftOver n share r) k);
+              }
 
           figure-is : (k : ℕ) → k < n → figureBy quotient extra (c .extra) k ≡ figureAfter n share r x k
           unfolding figureBy figureAfter runningSum
@@ -146,9 +151,24 @@ module _ (c : Carries) (x : ℕ) (ready : Ready c x) where
               minus-cong (at quotient k + at extra k) (at (c .extra) k) (runningSum n share (r + x) k) (runningSum n share r k)
               (omega (arith, floor-is k b, extra-at k b, had-at k b))
 
-          module _ (figures : List ℤ) (figures-filled : Filled (pos 0) (figureBy quotient extra (c .extra)) n figures) where
+          module _ {figures : List ℤ} (figures-filled : Filled (pos 0) (figureBy quotient extra (c .extra)) n figures) where
             pub next :
                 Next c x
                 (record { parties = n; w = c .w; «sum_wh» = r + x; left = left; share = c .share; remainder = rest; extra = extra; figures = figures })
             next =
-                record { good = record { few = ready .good .few; some = ready .good .some; w-is = ready .good .w-is; w-fits = ready .good .w-fits; shares = ready .good .shares; remainders = rests-filled; extras = extras-filled; left = left-now }; parties = refl; share = refl; sum = refl; figures = filled-as figures-filled figure-is }
+                record {
+                  good = record {
+                    few = ready .good .few;
+                    some = ready .good .some;
+                    w-is = ready .good .w-is;
+                    w-fits = ready .good .w-fits;
+                    shares = ready .good .shares;
+                    remainders = rests-filled;
+                    extras = extras-filled;
+                    left = left-now;
+                  };
+                  parties = refl;
+                  share = refl;
+                  sum = refl;
+                  figures = filled-as figures-filled figure-is;
+                }

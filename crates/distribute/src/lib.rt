@@ -204,10 +204,7 @@ pub fn w_in_range(shares: &[u64]) -> Answer
 {
     let share = padded(shares);
     let w = total(&share, shares.len());
-    if w < 1 {
-        return Answer::Refused(Refusal::WOutOfRange, 0);
-    }
-    if limits::GREATEST_W_KWH < w {
+    if !((1 <= w) & (w <= limits::GREATEST_W_KWH)) {
         return Answer::Refused(Refusal::WOutOfRange, 0);
     }
     Answer::Done

@@ -33,7 +33,15 @@ module _ (shares residuals : List ℕ) (size : ℕ) (asked : Distributable share
   pub hours-start : {lent : List ℤ} {c : Carries} → length lent ≡ size → Started shares c → Distributing shares residuals lent c 0 0
   unfolding sum
   hours-start {lent} {c} e started =
-      record { bound = zero-le; place-is = sym (zero-mul (length shares)); good = started .good; parties = started .parties; share = started .share; sum-is = started .sum; filling = fill-start (distributedAt shares residuals) (e ∙ asked .size) }
+      record {
+        bound = zero-le;
+        place-is = sym (zero-mul (length shares));
+        good = started .good;
+        parties = started .parties;
+        share = started .share;
+        sum-is = started .sum;
+        filling = fill-start (distributedAt shares residuals) (e ∙ asked .size);
+      }
 
   -- the residuals so far are few enough to be added up
   sum-bound : (t : ℕ) → t ≤ length residuals → sum t (at residuals) ≤ t * greatestResidual
@@ -45,7 +53,11 @@ module _ (shares residuals : List ℕ) (size : ℕ) (asked : Distributable share
     pub ready : Ready c (getD residuals t 0)
     unfolding at
     ready =
-        record { good = d .good; at-most = asked .residuals-fit t b; sum-fits = omega (arith, d .sum-is, sum-bound t (d .bound), asked .residuals-fit t b, asked .few-hours) }
+        record {
+          good = d .good;
+          at-most = asked .residuals-fit t b;
+          sum-fits = omega (arith, d .sum-is, sum-bound t (d .bound), asked .residuals-fit t b, asked .few-hours);
+        }
 
     room : t * length shares + length shares ≤ length residuals * length shares
     room = omega (arith, mul-le-mul-right (length shares) b)
@@ -89,9 +101,21 @@ module _ (shares residuals : List ℕ) (size : ℕ) (asked : Distributable share
         → Distributing shares residuals lent′ e (place + length shares) (t + 1)
     unfolding sum at
     hours-next {e} {lent′} next on =
-        record { bound = omega arith; place-is = omega (arith, d .place-is); good = next .good; parties = next .parties ∙ d .parties; share = subst (λ (l : List ℕ). Filled 0 (at shares) (length shares) l) (sym (next .share)) (d .share); sum-is = rw (add-one t) (next .sum ∙ ap (λ (x : ℕ). x + getD residuals t 0) (d .sum-is)); filling = on (distributedAt shares residuals) (length residuals * length shares) (d .filling) (omega (arith, d .place-is, room)) (λ i l. next .figures .below i (omega (arith, d .parties)) ∙ figure-there i l) }
+        record {
+          bound = omega arith;
+          place-is = omega (arith, d .place-is);
+          good = next .good;
+          parties = next .parties ∙ d .parties;
+          share = subst (λ (l : List ℕ). Filled 0 (at shares) (length shares) l) (sym (next .share)) (d .share);
+          sum-is = rw (add-one t) (next .sum ∙ ap (λ (x : ℕ). x + getD residuals t 0) (d .sum-is));
+          filling = on (distributedAt shares residuals) (length residuals * length shares) (d .filling) (omega (arith, d .place-is, room)) (λ i l. next .figures .below i (omega (arith, d .parties)) ∙ figure-there i l);
+        }
 
-  pub hours-end : {lent : List ℤ} {c : Carries} {place t : ℕ} → Distributing shares residuals lent c place t → length residuals ≤ t → lent ≡ distributionFigures shares residuals
+  pub hours-end :
+      {lent : List ℤ} {c : Carries} {place t : ℕ}
+      → Distributing shares residuals lent c place t
+      → length residuals ≤ t
+      → lent ≡ distributionFigures shares residuals
   unfolding distributionFigures
   hours-end {lent} {c} {place} {t} d b =
       let all : t ≡ length residuals = le-antisymm (d .bound) b in

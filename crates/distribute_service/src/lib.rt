@@ -35,16 +35,9 @@ fn shape(lent: usize, parties: usize, hours: usize) -> Answer
     if !lent_right(lent, parties, hours) {
         return Answer::Refused(Refusal::WrongLength, 0);
     }
-    if hours < 1 {
-        return Answer::Refused(Refusal::OutOfRange, 0);
-    }
-    if limits::MOST_HOURS < hours {
-        return Answer::Refused(Refusal::OutOfRange, 0);
-    }
-    if parties < 1 {
-        return Answer::Refused(Refusal::OutOfRange, 0);
-    }
-    if limits::MOST_PARTIES < parties {
+    if !((1 <= hours)
+        & (hours <= limits::MOST_HOURS)
+        & ((1 <= parties) & (parties <= limits::MOST_PARTIES))) {
         return Answer::Refused(Refusal::OutOfRange, 0);
     }
     Answer::Done

@@ -22,7 +22,7 @@ use Rattle.rules.proofs.Refusals.{refused-not-accepted, accepted-exactly, in-tu
 use Rattle.rules.proofs.Whole.{within-size, both-pass}
 use Rattle.residual.specs.declared.Hour.{Hour}
 use Rattle.residual.specs.Hour.{judgement, flowsHere}
-use Rattle.residual.proofs.Checks.{grouped, past}
+use Rattle.answer.proofs.Checks.{grouped, past}
 use Rattle.residual_service.specs.Passes.{WithinLimitsAt, residualShape, rangesOf, SameLengths, Ranged, Judged}
 
 -- every value of a list that was accepted
@@ -84,7 +84,10 @@ module _ (statuses : List ℕ) (nets : List ℤ) (productions hourlies flexes : 
   unfolding residualChecks residualShape rangesOf
   in-parts lent = past _ _ _ (grouped (_ ∷ _ ∷ _ ∷ _ ∷ _ ∷ []) _) ∙ grouped (_ ∷ _ ∷ _ ∷ []) _
 
-  pub shape-lengths : (lent : ℕ) → residualShape (length statuses) (length nets) (length productions) (length hourlies) (length flexes) lent ≡ accepted → SameLengths statuses nets productions hourlies flexes
+  pub shape-lengths :
+      (lent : ℕ)
+      → residualShape (length statuses) (length nets) (length productions) (length hourlies) (length flexes) lent ≡ accepted
+      → SameLengths statuses nets productions hourlies flexes
   shape-lengths lent e =
       let same = shape-same (length statuses) (length nets) (length productions) (length hourlies) (length flexes) lent e in
       record { nets-many = same .0; productions-many = same .1; hourlies-many = same .2; flexes-many = same .3 }
@@ -94,10 +97,25 @@ module _ (statuses : List ℕ) (nets : List ℤ) (productions hourlies flexes : 
   within-limits h t b =
       let all = accepted-exactly _ .0 (h .ranges) in
       let same : SameLengths statuses nets productions hourlies flexes = h .lengths in
-      record { of-nets = omega arith; of-productions = omega arith; of-hourlies = omega arith; of-flexes = omega arith; limits = record { net-within = each-within-size nets greatestFlow outOfRange (all .1 .0) t (omega arith); production-within = each-within productions greatestFlow outOfRange (all .1 .1 .0) t (omega arith); hourly-within = each-within hourlies greatestFlow outOfRange (all .1 .1 .1 .0) t (omega arith); flex-within = each-within flexes greatestFlow outOfRange (all .1 .1 .1 .1 .0) t (omega arith) } }
+      record {
+        of-nets = omega arith;
+        of-productions = omega arith;
+        of-hourlies = omega arith;
+        of-flexes = omega arith;
+        limits = record {
+          net-within = each-within-size nets greatestFlow outOfRange (all .1 .0) t (omega arith);
+          production-within = each-within productions greatestFlow outOfRange (all .1 .1 .0) t (omega arith);
+          hourly-within = each-within hourlies greatestFlow outOfRange (all .1 .1 .1 .0) t (omega arith);
+          flex-within = each-within flexes greatestFlow outOfRange (all .1 .1 .1 .1 .0) t (omega arith);
+        };
+      }
 
   -- one hour: what the code's test of a silent hour says
-  pub silent-said : (t : ℕ) {net : ℤ} {b : Bool} → net ≡ atℤ nets t → b ≡ silentIsZero (flowsHere (at statuses t) net (at productions t) (at hourlies t) (at flexes t)) → b ≡ silentIsZero (flowsOf statuses nets productions hourlies flexes t)
+  pub silent-said :
+      (t : ℕ) {net : ℤ} {b : Bool}
+      → net ≡ atℤ nets t
+      → b ≡ silentIsZero (flowsHere (at statuses t) net (at productions t) (at hourlies t) (at flexes t))
+      → b ≡ silentIsZero (flowsOf statuses nets productions hourlies flexes t)
   unfolding flowsOf
   silent-said t e s = s ∙ rw e
 
@@ -112,7 +130,11 @@ module _ (statuses : List ℕ) (nets : List ℤ) (productions hourlies flexes : 
   hour-said t hour here r e j s = s ∙ rw (j, e, r)
 
   -- an hour of lists that were judged: its residual is a figure of 32 bits
-  pub judged-fits : Judged statuses nets productions hourlies flexes → (t : ℕ) → t < length statuses → T (nonNeg (residual (flowsOf statuses nets productions hourlies flexes t))) × Fits w32 (natAbs (residual (flowsOf statuses nets productions hourlies flexes t)))
+  pub judged-fits :
+      Judged statuses nets productions hourlies flexes
+      → (t : ℕ)
+      → t < length statuses
+      → T (nonNeg (residual (flowsOf statuses nets productions hourlies flexes t))) × Fits w32 (natAbs (residual (flowsOf statuses nets productions hourlies flexes t)))
   unfolding hourCheck judged flowsOf
   judged-fits h t b =
       let r = residual (flowsOf statuses nets productions hourlies flexes t) in
@@ -120,16 +142,31 @@ module _ (statuses : List ℕ) (nets : List ℤ) (productions hourlies flexes : 
       (f .0, record { fits = omega (arith, f .1) })
 
   -- what the code writes for such an hour is its figure, and no other
-  pub written-fits : Judged statuses nets productions hourlies flexes → (t : ℕ) → t < length statuses → {z : ℤ} → z ≡ residual (flowsHere 0 (atℤ nets t) (at productions t) (at hourlies t) (at flexes t)) → T (nonNeg z) × Fits w32 (natAbs z)
+  pub written-fits :
+      Judged statuses nets productions hourlies flexes
+      → (t : ℕ)
+      → t < length statuses
+      → {z : ℤ}
+      → z ≡ residual (flowsHere 0 (atℤ nets t) (at productions t) (at hourlies t) (at flexes t))
+      → T (nonNeg z) × Fits w32 (natAbs z)
   unfolding flowsOf residual
   written-fits h t b e = rw e (judged-fits h t b)
 
-  pub written-is : (t : ℕ) {z : ℤ} → z ≡ residual (flowsHere 0 (atℤ nets t) (at productions t) (at hourlies t) (at flexes t)) → natAbs z ≡ residualAt statuses nets productions hourlies flexes t
+  pub written-is :
+      (t : ℕ) {z : ℤ}
+      → z ≡ residual (flowsHere 0 (atℤ nets t) (at productions t) (at hourlies t) (at flexes t))
+      → natAbs z ≡ residualAt statuses nets productions hourlies flexes t
   unfolding residualAt residualWh flowsOf residual
   written-is t e = ap natAbs e
 
   -- A MISSING HOUR IS NEVER A ZERO: where the service accepts, no hour has status 0
-  pub no-missing-hour : (lent : ℕ) → first (residualChecks statuses nets productions hourlies flexes lent) ≡ accepted → (t : ℕ) → t < length statuses → at statuses t ≡ missing → ⊥
+  pub no-missing-hour :
+      (lent : ℕ)
+      → first (residualChecks statuses nets productions hourlies flexes lent) ≡ accepted
+      → (t : ℕ)
+      → t < length statuses
+      → at statuses t ≡ missing
+      → ⊥
   unfolding residualChecks hourCheck judged flowsOf residual
   no-missing-hour lent e t b silent =
       let hours = accepted-exactly _ .0 e .1 .1 .1 .1 .1 .1 .1 .1 .1 .0 in

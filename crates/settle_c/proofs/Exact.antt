@@ -63,7 +63,10 @@ both : (a b : Bool) → (a && b) ≡ true → (a ≡ true) × (b ≡ true)
 both true b h = (refl, h)
 both false b h = absurd (refused-not-accepted {r = wrongLength} {place = 0} (ap (λ (x : Bool). cond x accepted (refused wrongLength 0)) h))
 
-silent-early : (statuses : List ℕ) (nets : List ℤ) (productions hourlies flexes : List ℕ) (t : ℕ) → t < 8784 → Early (silentCheck statuses nets productions hourlies flexes t)
+silent-early :
+    (statuses : List ℕ) (nets : List ℤ) (productions hourlies flexes : List ℕ) (t : ℕ)
+    → t < 8784
+    → Early (silentCheck statuses nets productions hourlies flexes t)
 unfolding silentCheck
 silent-early statuses nets productions hourlies flexes t b = unless-early _ outOfRange t b
 
@@ -101,7 +104,9 @@ periodisation-early e weights lent =
     first-early _ _ (each-early weights _ _ h) (λ _.
     last-early _ (unless-early _ _ 0 (omega arith))))))
 
-pub residual-early : (statuses : List ℕ) (nets : List ℤ) (productions hourlies flexes : List ℕ) (lent : ℕ) → Early (first (residualChecks statuses nets productions hourlies flexes lent))
+pub residual-early :
+    (statuses : List ℕ) (nets : List ℤ) (productions hourlies flexes : List ℕ) (lent : ℕ)
+    → Early (first (residualChecks statuses nets productions hourlies flexes lent))
 unfolding residualChecks
 residual-early statuses nets productions hourlies flexes lent =
     let n = length statuses in
@@ -136,7 +141,9 @@ distribution-early shares residuals lent =
     first-early _ _ (unless-early _ _ 0 (omega arith)) (λ _.
     last-early _ (each-early residuals _ _ (omega (arith, hours)))))))
 
-pub reconciliation-early : (residual : ℕ) (distributed : List ℤ) (periodised : List ℕ) (carrier : ℕ) (price : ℤ) (lentDifferences lentAmounts : ℕ) → Early (first (reconciliationChecks residual distributed periodised carrier price lentDifferences lentAmounts))
+pub reconciliation-early :
+    (residual : ℕ) (distributed : List ℤ) (periodised : List ℕ) (carrier : ℕ) (price : ℤ) (lentDifferences lentAmounts : ℕ)
+    → Early (first (reconciliationChecks residual distributed periodised carrier price lentDifferences lentAmounts))
 unfolding reconciliationChecks
 reconciliation-early residual distributed periodised carrier price lentDifferences lentAmounts =
     first-early _ _ (unless-early _ _ 0 (omega arith)) (λ _.

@@ -1,6 +1,6 @@
 -- `residual_service::flows_in_range` meets its contract: five passes, one after the other. Assumes nothing.
 use mathlib.Core.Path.{_∙_}
-use Rattle.residual.proofs.Checks.{pass-refuses, pass-accepts, last-check}
+use Rattle.answer.proofs.Checks.{pass-refuses, pass-accepts, last-check}
 use Rattle.residual_service.specs.Passes.{rangesOf}
 use borrow.Author.Needs.{needs}
 use Rattle.residual_service.proofs.flows_in_range.Statement.{statement}

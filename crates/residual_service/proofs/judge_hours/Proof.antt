@@ -41,7 +41,9 @@ enum-told-2 : tie.Need-enum-told-2 Inv-loop μ-loop
 enum-told-2 c = search needs
 
 -- what is said of the hour is its check
-said-here : (c : tie.After-answer-of Inv-loop μ-loop) → said (c .answer-of .result) ≡ hourCheck (c .before .before .before .before .before .before .before .before .before .before .args .statuses .now) (c .before .before .before .before .before .before .before .before .before .before .args .nets .now) (c .before .before .before .before .before .before .before .before .before .before .args .productions .now) (c .before .before .before .before .before .before .before .before .before .before .args .hourlies .now) (c .before .before .before .before .before .before .before .before .before .before .args .flexes .now) (c .before .before .before .before .before .loop .t)
+said-here :
+    (c : tie.After-answer-of Inv-loop μ-loop)
+    → said (c .answer-of .result) ≡ hourCheck (c .before .before .before .before .before .before .before .before .before .before .args .statuses .now) (c .before .before .before .before .before .before .before .before .before .before .args .nets .now) (c .before .before .before .before .before .before .before .before .before .before .args .productions .now) (c .before .before .before .before .before .before .before .before .before .before .args .hourlies .now) (c .before .before .before .before .before .before .before .before .before .before .args .flexes .now) (c .before .before .before .before .before .loop .t)
 unfolding at
 said-here c =
     hour-said _ _ _ _ _ _ (c .before .judge .result) (c .answer-of .result) (c .before .before .before .residual-at .ensures)

@@ -13,7 +13,7 @@ use Rattle.rules.specs.Refusals.{outOfRange}
 use Rattle.rules.specs.Services.{eachAtℤ, checkAtℤ, atℤ}
 use Rattle.rules.specs.Words.{withinℤ}
 use Rattle.rules.proofs.Loops.{Looking, look-start, look-pass, look-stop, look-end}
-use Rattle.residual.proofs.Places.{passes, stops}
+use Rattle.answer.proofs.Checks.{passes, stops}
 use Rattle.residual_service.proofs.nets_in_range.Statement.{statement}
 use Rattle.residual_service.proofs.nets_in_range.Tie as tie
 
@@ -36,7 +36,9 @@ net-in-range-requires : tie.Need-net-in-range-requires Inv-loop μ-loop
 net-in-range-requires c κs = search needs
 
 -- what the test says of the net supply at this hour
-tested : (c : tie.After-net-in-range Inv-loop μ-loop) → c .net-in-range .result ≡ withinℤ greatestFlow (atℤ (c .before .before .before .before .args .nets .now) (c .before .before .before .loop .i))
+tested :
+    (c : tie.After-net-in-range Inv-loop μ-loop)
+    → c .net-in-range .result ≡ withinℤ greatestFlow (atℤ (c .before .before .before .before .args .nets .now) (c .before .before .before .loop .i))
 unfolding atℤ
 tested c =
     let f : SFits w64 (getD (c .before .before .before .before .args .nets .now) (c .before .before .before .loop .i) (pos 0)) = search needs in

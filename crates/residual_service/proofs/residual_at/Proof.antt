@@ -36,7 +36,9 @@ shared-slice-read-residual-of-3 : tie.Need-shared-slice-read-residual-of-3
 shared-slice-read-residual-of-3 c = search needs
 
 -- the net supply of the hour, read back from its bits
-net-is : (c : tie.After-residual-of-arg) → toZ w64 (ofZ w64 (getD (c .before .before .before .before .args .nets .now) (c .before .before .before .before .args .t) (pos 0))) ≡ getD (c .before .before .before .before .args .nets .now) (c .before .before .before .before .args .t) (pos 0)
+net-is :
+    (c : tie.After-residual-of-arg)
+    → toZ w64 (ofZ w64 (getD (c .before .before .before .before .args .nets .now) (c .before .before .before .before .args .t) (pos 0))) ≡ getD (c .before .before .before .before .args .nets .now) (c .before .before .before .before .args .t) (pos 0)
 net-is c =
     let f : SFits w64 (getD (c .before .before .before .before .args .nets .now) (c .before .before .before .before .args .t) (pos 0)) = search needs in
     toZ-ofZ f

@@ -10,7 +10,7 @@ use Rattle.rules.specs.Flows.{silentIsZero}
 use Rattle.rules.specs.Services.{silentCheck, flowsOf, atℤ}
 use Rattle.rules.specs.Words.{at}
 use Rattle.rules.proofs.Loops.{Looking, look-start, look-pass, look-stop, look-end}
-use Rattle.residual.proofs.Places.{passes, stops}
+use Rattle.answer.proofs.Checks.{passes, stops}
 use Rattle.residual_service.proofs.Hours.{silent-said}
 use borrow.Author.Needs.{needs}
 use native.Mathlib.Omega.{arith}
@@ -58,7 +58,9 @@ silent-is-zero-requires : tie.Need-silent-is-zero-requires Inv-loop μ-loop
 silent-is-zero-requires c κs = search needs
 
 -- what the test says of the hour
-tested : (c : tie.After-silent-is-zero Inv-loop μ-loop) → c .silent-is-zero .result ≡ silentIsZero (flowsOf (c .before .before .before .before .before .before .before .before .before .before .before .before .args .statuses .now) (c .before .before .before .before .before .before .before .before .before .before .before .before .args .nets .now) (c .before .before .before .before .before .before .before .before .before .before .before .before .args .productions .now) (c .before .before .before .before .before .before .before .before .before .before .before .before .args .hourlies .now) (c .before .before .before .before .before .before .before .before .before .before .before .before .args .flexes .now) (c .before .before .before .before .before .before .before .loop .t))
+tested :
+    (c : tie.After-silent-is-zero Inv-loop μ-loop)
+    → c .silent-is-zero .result ≡ silentIsZero (flowsOf (c .before .before .before .before .before .before .before .before .before .before .before .before .args .statuses .now) (c .before .before .before .before .before .before .before .before .before .before .before .before .args .nets .now) (c .before .before .before .before .before .before .before .before .before .before .before .before .args .productions .now) (c .before .before .before .before .before .before .before .before .before .before .before .before .args .hourlies .now) (c .before .before .before .before .before .before .before .before .before .before .before .before .args .flexes .now) (c .before .before .before .before .before .before .before .loop .t))
 unfolding at atℤ
 tested c =
     let f : SFits w64 (getD (c .before .before .before .before .before .before .before .before .before .before .before .before .args .nets .now) (c .before .before .before .before .before .before .before .loop .t) (pos 0)) = search needs in

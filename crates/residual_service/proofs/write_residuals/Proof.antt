@@ -29,7 +29,9 @@ residual-at-requires : tie.Need-residual-at-requires Inv-loop μ-loop
 residual-at-requires c κs = within-limits _ _ _ _ _ (c .before .before .before .before .before .before .before .pre .0 .ranged) _ (omega arith)
 
 -- the machine's number is the hour's residual
-figure-is : (c : tie.After-residual-at Inv-loop μ-loop) → toZ w64 (ofZ w64 (c .residual-at .result)) ≡ residual (flowsHere 0 (atℤ (c .before .before .before .before .before .before .before .before .args .nets .now) (c .before .before .loop .t)) (at (c .before .before .before .before .before .before .before .before .args .productions .now) (c .before .before .loop .t)) (at (c .before .before .before .before .before .before .before .before .args .hourlies .now) (c .before .before .loop .t)) (at (c .before .before .before .before .before .before .before .before .args .flexes .now) (c .before .before .loop .t)))
+figure-is :
+    (c : tie.After-residual-at Inv-loop μ-loop)
+    → toZ w64 (ofZ w64 (c .residual-at .result)) ≡ residual (flowsHere 0 (atℤ (c .before .before .before .before .before .before .before .before .args .nets .now) (c .before .before .loop .t)) (at (c .before .before .before .before .before .before .before .before .args .productions .now) (c .before .before .loop .t)) (at (c .before .before .before .before .before .before .before .before .args .hourlies .now) (c .before .before .loop .t)) (at (c .before .before .before .before .before .before .before .before .args .flexes .now) (c .before .before .loop .t)))
 figure-is c = toZ-ofZ (record { sfits = c .residual-at .ok }) ∙ c .residual-at .ensures
 
 cast-out : tie.Need-cast-out Inv-loop μ-loop

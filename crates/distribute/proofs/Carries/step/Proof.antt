@@ -1,50 +1,82 @@
 -- `distribute::Carries::step` meets its contract: `Step` says why, from what the parts give. Assumes nothing.
-use Prim.Native.Nat.{ℕ, _+_, _-_}
 use Rattle.distribute.proofs.Step as S
 use borrow.Author.Needs.{needs}
-use mathlib.Core.Path.{_∙_, ap}
 use native.Mathlib.Omega.{arith}
-use borrow.Author.Needs.{needs}
 use Rattle.distribute.proofs.Carries.step.Statement.{statement}
 use Rattle.distribute.proofs.Carries.step.Tie as tie
 
 grown-by-requires : tie.Need-grown-by-requires
-grown-by-requires c κs = (search needs, S.grown-fits (c .before .before .before .before .before .args .self) (c .before .before .before .before .before .args .residual-wh) (c .before .before .before .before .before .pre))
+grown-by-requires c κs = (search needs, S.grown-fits (c .before .before .before .before .before .pre))
 
 quotients-requires : tie.Need-quotients-requires
 quotients-requires c κs = search needs
 
+-- from each part to the one before it
+abbrev grown-at : tie.After-quotients → tie.After-grown-by
+grown-at c = c .before .before
+
+abbrev start-at : tie.After-quotients → tie.Start
+start-at c = grown-at c .before .before .before .before .before .before
+
+abbrev quotients-at : tie.After-rests → tie.After-quotients
+quotients-at c = c .before .before .before
+
+abbrev rests-at : tie.After-total → tie.After-rests
+rests-at c = c .before .before .before
+
+abbrev total-at : tie.After-one-each → tie.After-total
+total-at c = c .before .before
+
 rests-requires : tie.Need-rests-requires
-rests-requires c κs = (search needs, S.rests-ask (c .before .before .before .before .before .before .before .before .before .before .args .self) (c .before .before .before .before .before .before .before .before .before .before .args .residual-wh) (c .before .before .before .before .before .before .before .before .before .before .pre) _ (c .before .before .before .before .grown-by .ensures) _ (c .before .before .quotients .ensures))
+rests-requires c κs =
+    let q = c .before .before in
+    (search needs, S.rests-ask (start-at q .pre) (grown-at q .grown-by .ensures) (q .quotients .ensures))
 
 add-left : tie.Need-add-left
-add-left c = omega (arith, S.left-few (c .before .before .before .before .before .before .before .before .before .before .before .before .args .self) (c .before .before .before .before .before .before .before .before .before .before .before .before .args .residual-wh) (c .before .before .before .before .before .before .before .before .before .before .before .before .pre) _ (c .before .before .before .before .before .before .grown-by .ensures) _ (c .before .before .before .before .quotients .ensures), (c .before .before .before .before .before .before .before .before .before .before .before .before .pre .sum-fits))
+add-left c =
+    let q = quotients-at (c .before) in
+    omega (arith, S.left-few (start-at q .pre) (grown-at q .grown-by .ensures) (q .quotients .ensures), start-at q .pre .sum-fits)
 
 total-requires : tie.Need-total-requires
-total-requires c κs = (
-  search needs,
-  omega
-      (arith, S.quotients-few (c .before .before .before .before .before .before .before .before .before .before .before .before .before .args .self) (c .before .before .before .before .before .before .before .before .before .before .before .before .before .args .residual-wh) (c .before .before .before .before .before .before .before .before .before .before .before .before .before .pre) _ (c .before .before .before .before .before .before .before .grown-by .ensures) _ (c .before .before .before .before .before .quotients .ensures), S.left-few (c .before .before .before .before .before .before .before .before .before .before .before .before .before .args .self) (c .before .before .before .before .before .before .before .before .before .before .before .before .before .args .residual-wh) (c .before .before .before .before .before .before .before .before .before .before .before .before .before .pre) _ (c .before .before .before .before .before .before .before .grown-by .ensures) _ (c .before .before .before .before .before .quotients .ensures), (c .before .before .before .before .before .before .before .before .before .before .before .before .before .pre .sum-fits)),
-)
+total-requires c κs =
+    let q = quotients-at (c .before .before) in
+    let pre = start-at q .pre in
+    let few = S.quotients-few pre (grown-at q .grown-by .ensures) (q .quotients .ensures) in
+    let left = S.left-few pre (grown-at q .grown-by .ensures) (q .quotients .ensures) in
+    (search needs, omega (arith, few, left, pre .sum-fits))
 
 sub-left : tie.Need-sub-left
-sub-left c = omega (arith, c .total .ensures, S.quotients-few (c .before .before .before .before .before .before .before .before .before .before .before .before .before .before .args .self) (c .before .before .before .before .before .before .before .before .before .before .before .before .before .before .args .residual-wh) (c .before .before .before .before .before .before .before .before .before .before .before .before .before .before .pre) _ (c .before .before .before .before .before .before .before .before .grown-by .ensures) _ (c .before .before .before .before .before .before .quotients .ensures))
+sub-left c =
+    let q = quotients-at (rests-at c) in
+    omega (arith, c .total .ensures, S.quotients-few (start-at q .pre) (grown-at q .grown-by .ensures) (q .quotients .ensures))
 
 one-each-requires : tie.Need-one-each-requires
 one-each-requires c κs = search needs
 
 figures-of-requires : tie.Need-figures-of-requires
-figures-of-requires c κs = (
-  search needs,
-  S.parts-small (c .before .before .before .before .before .before .before .before .before .before .before .before .before .before .before .before .before .before .before .args .self) (c .before .before .before .before .before .before .before .before .before .before .before .before .before .before .before .before .before .before .before .args .residual-wh) (c .before .before .before .before .before .before .before .before .before .before .before .before .before .before .before .before .before .before .before .pre) _ (c .before .before .before .before .before .before .before .before .before .before .before .before .before .grown-by .ensures) _ (c .before .before .before .before .before .before .before .before .before .before .before .quotients .ensures) _ (c .before .before .before .before .before .before .before .before .rests .ensures) _ (ap (λ (s : ℕ). (c .before .before .before .before .before .before .before .before .before .before .before .before .before .before .before .before .before .before .before .args .self .left) + (c .before .before .before .before .before .before .before .before .before .before .before .before .before .before .before .before .before .before .before .args .residual-wh) - s) (c .before .before .before .before .before .total .ensures) ∙ S.left-is (c .before .before .before .before .before .before .before .before .before .before .before .before .before .before .before .before .before .before .before .args .self) (c .before .before .before .before .before .before .before .before .before .before .before .before .before .before .before .before .before .before .before .args .residual-wh) (c .before .before .before .before .before .before .before .before .before .before .before .before .before .before .before .before .before .before .before .pre) _ (c .before .before .before .before .before .before .before .before .before .before .before .before .before .grown-by .ensures) _ (c .before .before .before .before .before .before .before .before .before .before .before .quotients .ensures)) _ (c .before .before .before .one-each .ensures),
-)
+figures-of-requires c κs =
+    let extra = c .before .before .before in
+    let total = total-at extra in
+    let rests = rests-at total in
+    let q = quotients-at rests in
+    let pre = start-at q .pre in
+    let left = S.left-is pre (grown-at q .grown-by .ensures) (q .quotients .ensures) (total .total .ensures) in
+    (search needs, S.parts-small pre (grown-at q .grown-by .ensures) (q .quotients .ensures) (rests .rests .ensures) left (extra .one-each .ensures))
 
 add-t22 : tie.Need-add-t22
-add-t22 c = omega (arith, (c .before .before .before .before .before .before .before .before .before .before .before .before .before .before .before .before .before .before .before .before .before .pre .sum-fits))
+add-t22 c =
+    let extra = c .before .before .before .before .before in
+    omega (arith, start-at (quotients-at (rests-at (total-at extra))) .pre .sum-fits)
 
 returns : tie.Need-returns
 returns c =
-    S.next (c .before .before .before .before .before .before .before .before .before .before .before .before .before .before .before .before .before .before .before .before .before .args .self) (c .before .before .before .before .before .before .before .before .before .before .before .before .before .before .before .before .before .before .before .before .before .args .residual-wh) (c .before .before .before .before .before .before .before .before .before .before .before .before .before .before .before .before .before .before .before .before .before .pre) _ (c .before .before .before .before .before .before .before .before .before .before .before .before .before .before .before .grown-by .ensures) _ (c .before .before .before .before .before .before .before .before .before .before .before .before .before .quotients .ensures) _ (c .before .before .before .before .before .before .before .before .before .before .rests .ensures) _ (ap (λ (s : ℕ). (c .before .before .before .before .before .before .before .before .before .before .before .before .before .before .before .before .before .before .before .before .before .args .self .left) + (c .before .before .before .before .before .before .before .before .before .before .before .before .before .before .before .before .before .before .before .before .before .args .residual-wh) - s) (c .before .before .before .before .before .before .before .total .ensures) ∙ S.left-is (c .before .before .before .before .before .before .before .before .before .before .before .before .before .before .before .before .before .before .before .before .before .args .self) (c .before .before .before .before .before .before .before .before .before .before .before .before .before .before .before .before .before .before .before .before .before .args .residual-wh) (c .before .before .before .before .before .before .before .before .before .before .before .before .before .before .before .before .before .before .before .before .before .pre) _ (c .before .before .before .before .before .before .before .before .before .before .before .before .before .before .before .grown-by .ensures) _ (c .before .before .before .before .before .before .before .before .before .before .before .before .before .quotients .ensures)) _ (c .before .before .before .before .before .one-each .ensures) _
+    let extra = c .before .before .before .before .before in
+    let total = total-at extra in
+    let rests = rests-at total in
+    let q = quotients-at rests in
+    let pre = start-at q .pre in
+    let left = S.left-is pre (grown-at q .grown-by .ensures) (q .quotients .ensures) (total .total .ensures) in
+    S.next pre (grown-at q .grown-by .ensures) (q .quotients .ensures) (rests .rests .ensures) left (extra .one-each .ensures)
     (c .before .figures-of .ensures)
 
 pub step-spec : {M : Type 1} → statement M

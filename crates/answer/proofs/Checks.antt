@@ -35,7 +35,11 @@ unfolding first andThen unless
 test-passes r place later e h = rw e h
 
 -- by a pass over the lists, which gave the answer x
-pub pass-refuses : {x : Answer} {check : Verdict} {r : D.Refusal} {place : ℕ} (later : List Verdict) → said x ≡ check → x ≡ Refused r place → said x ≡ first (check ∷ later)
+pub pass-refuses :
+    {x : Answer} {check : Verdict} {r : D.Refusal} {place : ℕ} (later : List Verdict)
+    → said x ≡ check
+    → x ≡ Refused r place
+    → said x ≡ first (check ∷ later)
 unfolding first andThen
 pass-refuses later e told = rw (sym e, told)
 
@@ -66,3 +70,12 @@ past check l m e = ap (andThen check) e
 pub unwritten : {A : Type 0} {x : Answer} {r : D.Refusal} {place : ℕ} (new old : List A) → x ≡ Refused r place → old ≡ afterwards (said x) new old
 unfolding afterwards
 unwritten new old told = rw told
+
+-- one place of a list: what a test that held or failed there says of its check
+pub passes : {test b : Bool} (r : Refusal) (i : ℕ) → b ≡ test → not b ≡ false → unless test r i ≡ accepted
+unfolding unless
+passes {b = b} r i e h = rw (sym e ∙ flag-on b h)
+
+pub stops : {test b : Bool} (r : Refusal) (i : ℕ) → b ≡ test → not b ≡ true → unless test r i ≡ refused r i
+unfolding unless
+stops {b = b} r i e h = rw (sym e ∙ flag-off b h)
