@@ -5,7 +5,7 @@ use mathlib.Core.Path.{_≡_, sym, _∙_, ap₂}
 use Prim.Native.Nat.{ℕ, _≤_, _<_}
 use borrow.Author.Tests.{le-leb, lt-leb, leb-true}
 use lib.Dec.{leb}
-use lib.IntN.{ℤ}
+use lib.IntN.{ℤ, pos, negℤ}
 use lib.ListN.{length, getD}
 use mir.Facts.{toZ-ofZ}
 use mir.Syntax.{w64}
@@ -13,7 +13,7 @@ use mir.Val.{SFits, toZ, ofZ}
 use Rattle.answer.specs.Ranges.{betweenℤ}
 use Rattle.rules.specs.Refusals.{Refusal, Verdict, accepted, refused, unless}
 use Rattle.rules.specs.Services.{atℤ, checkAt, eachAt, checkAtℤ, eachAtℤ}
-use Rattle.rules.specs.Words.{at, atMost}
+use Rattle.rules.specs.Words.{at, atMost, withinℤ}
 use Rattle.rules.proofs.Refusals.{in-turn-exactly, unless-exactly}
 
 pub value-passes : (l : List ℕ) (most : ℕ) (r : Refusal) (i : ℕ) → getD l i 0 ≤ most → checkAt l (atMost most) r i ≡ accepted
@@ -45,3 +45,13 @@ pub by-its-ends :
     → eachAtℤ l (betweenℤ (toZ w64 (ofZ w64 lowest)) (toZ w64 (ofZ w64 greatest))) r ≡ v
     → v ≡ eachAtℤ l (betweenℤ lowest greatest) r
 by-its-ends l r f g e = sym e ∙ ap₂ (λ (low high : ℤ). eachAtℤ l (betweenℤ low high) r) (toZ-ofZ f) (toZ-ofZ g)
+
+-- the range -most .. most, of a figure that the code has in bits
+pub within-tested :
+    (most : ℕ) {z : ℤ}
+    → SFits w64 z
+    → {b : Bool}
+    → b ≡ betweenℤ (negℤ (pos most)) (pos most) (toZ w64 (ofZ w64 z))
+    → b ≡ withinℤ most z
+unfolding betweenℤ withinℤ
+within-tested most f e = e ∙ rw (toZ-ofZ f)

@@ -23,20 +23,8 @@ use Rattle.rules.proofs.Whole.{within-size, both-pass}
 use Rattle.residual.specs.declared.Hour.{Hour}
 use Rattle.residual.specs.Hour.{judgement, flowsHere}
 use Rattle.answer.proofs.Checks.{grouped, past}
-use Rattle.residual_service.specs.Passes.{WithinLimitsAt, residualShape, rangesOf, SameLengths, Ranged, Judged}
-
--- every value of a list that was accepted
-pub each-within : (l : List ℕ) (most : ℕ) (r : Refusal) → eachAt l (atMost most) r ≡ accepted → (i : ℕ) → i < length l → at l i ≤ most
-unfolding eachAt checkAt atMost
-each-within l most r e i b =
-    leb-true (at l i) most
-    (unless-exactly (leb (at l i) most) r i .0 (in-turn-exactly (length l) (checkAt l (atMost most) r) .0 e i b))
-
-pub each-within-size : (l : List ℤ) (most : ℕ) (r : Refusal) → eachAtℤ l (withinℤ most) r ≡ accepted → (i : ℕ) → i < length l → natAbs (atℤ l i) ≤ most
-unfolding eachAtℤ checkAtℤ
-each-within-size l most r e i b =
-    within-size most (atℤ l i)
-    (unless-exactly (withinℤ most (atℤ l i)) r i .0 (in-turn-exactly (length l) (checkAtℤ l (withinℤ most) r) .0 e i b))
+use Rattle.answer.proofs.Ranges.{each-at-most, each-passes}
+use Rattle.residual_service.specs.Passes.{residualHere, WithinLimitsAt, residualShape, rangesOf, SameLengths, Ranged, Judged}
 
 -- what an accepted shape says of the lengths
 module _ (statuses nets productions hourlies flexes lent : ℕ) (e : residualShape statuses nets productions hourlies flexes lent ≡ accepted) where
@@ -103,10 +91,10 @@ module _ (statuses : List ℕ) (nets : List ℤ) (productions hourlies flexes : 
         of-hourlies = omega arith;
         of-flexes = omega arith;
         limits = record {
-          net-within = each-within-size nets greatestFlow outOfRange (all .1 .0) t (omega arith);
-          production-within = each-within productions greatestFlow outOfRange (all .1 .1 .0) t (omega arith);
-          hourly-within = each-within hourlies greatestFlow outOfRange (all .1 .1 .1 .0) t (omega arith);
-          flex-within = each-within flexes greatestFlow outOfRange (all .1 .1 .1 .1 .0) t (omega arith);
+          net-within = within-size greatestFlow (atℤ nets t) (each-passes nets _ outOfRange (all .1 .0) t (omega arith));
+          production-within = each-at-most productions greatestFlow outOfRange (all .1 .1 .0) t (omega arith);
+          hourly-within = each-at-most hourlies greatestFlow outOfRange (all .1 .1 .1 .0) t (omega arith);
+          flex-within = each-at-most flexes greatestFlow outOfRange (all .1 .1 .1 .1 .0) t (omega arith);
         };
       }
 
@@ -121,7 +109,7 @@ module _ (statuses : List ℕ) (nets : List ℤ) (productions hourlies flexes : 
 
   -- one hour: what the code says of it is its check
   pub hour-said :
-      (t : ℕ) {wh z : ℤ} (hour : Hour) (here : Answer) → wh ≡ residual (flowsHere 0 (atℤ nets t) (at productions t) (at hourlies t) (at flexes t))
+      (t : ℕ) {wh z : ℤ} (hour : Hour) (here : Answer) → wh ≡ residualHere nets productions hourlies flexes t
       → z ≡ wh
       → judgement hour ≡ judgedBy (at statuses t) z
       → said here ≡ verdictOf (judgement hour) t
@@ -147,14 +135,14 @@ module _ (statuses : List ℕ) (nets : List ℤ) (productions hourlies flexes : 
       → (t : ℕ)
       → t < length statuses
       → {z : ℤ}
-      → z ≡ residual (flowsHere 0 (atℤ nets t) (at productions t) (at hourlies t) (at flexes t))
+      → z ≡ residualHere nets productions hourlies flexes t
       → T (nonNeg z) × Fits w32 (natAbs z)
   unfolding flowsOf residual
   written-fits h t b e = rw e (judged-fits h t b)
 
   pub written-is :
       (t : ℕ) {z : ℤ}
-      → z ≡ residual (flowsHere 0 (atℤ nets t) (at productions t) (at hourlies t) (at flexes t))
+      → z ≡ residualHere nets productions hourlies flexes t
       → natAbs z ≡ residualAt statuses nets productions hourlies flexes t
   unfolding residualAt residualWh flowsOf residual
   written-is t e = ap natAbs e

@@ -57,7 +57,8 @@ pub extern "C" fn settle_residual(
 #[no_mangle]
 pub extern "C" fn settle_curve(residuals: &[u32], w: u64, out: &mut [u32]) -> u64
     ensures answer { λ r. ⌜ r ≡ coded (first (curveChecks (now (residuals .entry)) w (length (now (out .entry))))) ⌝ }
-    ensures contents { λ _. ⌜ now (out .exit) ≡ afterwards (first (curveChecks (now (residuals .entry)) w (length (now (out .entry))))) (curveFigures (now (residuals .entry)) w) (now (out .entry)) ⌝ }
+    ensures contents { λ _. ⌜ now (out .exit) ≡ afterwards (first (curveChecks (now (residuals .entry)) w (length (now (out .entry)))))
+        (curveFigures (now (residuals .entry)) w) (now (out .entry)) ⌝ }
 {
     let answered = residual::curve(residuals, w, out);
     code(answered)

@@ -71,7 +71,7 @@ judge-hours-requires c κs =
     let c1 = c2 .before .before .before in
     record {
       lengths = shape-lengths _ _ _ _ _ _ (accepted-by (c1 .before .before .residual-shape .ensures) (c1 .enum-told .given .1));
-      ranges = (accepted-by (c2 .before .before .flows-in-range .ensures) (c2 .enum-told3 .given .1));
+      ranges = accepted-by (c2 .before .before .flows-in-range .ensures) (c2 .enum-told3 .given .1);
     }
 
 enum-told-7 : tie.Need-enum-told-7
@@ -102,7 +102,7 @@ write-residuals-requires c κs =
       record {
         ranged = record {
           lengths = shape-lengths _ _ _ _ _ _ (accepted-by (c1 .before .before .residual-shape .ensures) (c1 .enum-told .given .1));
-          ranges = (accepted-by (c2 .before .before .flows-in-range .ensures) (c2 .enum-told3 .given .1));
+          ranges = accepted-by (c2 .before .before .flows-in-range .ensures) (c2 .enum-told3 .given .1);
         };
         hours = (accepted-by (c4 .before .before .judge-hours .ensures) (c4 .enum-told7 .given .1));
       },
