@@ -21,9 +21,9 @@ all-nothing nothing zero k = refl
 all-nothing nothing (suc n) zero = refl
 all-nothing nothing (suc n) (suc k) = all-nothing nothing n k
 
-pub filled-zeros : {A : Type 0} (nothing : A) (figure : ℕ → A) → Filled nothing figure 0 (replicate 64 nothing)
+pub filled-zeros : {A : Type 0} (nothing : A) (figure : ℕ → A) → Filled nothing figure 0 (replicate mostParties nothing)
 filled-zeros nothing figure =
-    filled-none nothing figure (replicate 64 nothing) (length-replicate 64 nothing) (all-nothing nothing 64)
+    filled-none nothing figure (replicate mostParties nothing) (length-replicate mostParties nothing) (all-nothing nothing mostParties)
 
 pub filled-next :
     {A : Type 0} {nothing : A} {figure : ℕ → A} {i : ℕ} {l : List A} {v : A}
@@ -68,7 +68,7 @@ pub record Upto {A : Type 0} (nothing : A) (figure : ℕ → A) (n i : ℕ) (l :
   pub bound : i ≤ n
   pub filled : Filled nothing figure i l
 
-pub upto-start : {A : Type 0} (nothing : A) (figure : ℕ → A) (n : ℕ) → Upto nothing figure n 0 (replicate 64 nothing)
+pub upto-start : {A : Type 0} (nothing : A) (figure : ℕ → A) (n : ℕ) → Upto nothing figure n 0 (replicate mostParties nothing)
 upto-start nothing figure n = record { bound = zero-le; filled = filled-zeros nothing figure }
 
 pub upto-next :

@@ -13,12 +13,13 @@ use Rattle.distribute.specs.Good.{Startable, Started, extraAfter}
 use Rattle.apportion.proofs.Arrays.{filled-as, all-nothing}
 use Rattle.rules.specs.Distributed.{remainder, leftOver, oneEach, rank}
 use Rattle.rules.specs.Flows.{W}
+use Rattle.rules.specs.Limits.{mostParties}
 use Rattle.rules.specs.Words.{sum, at}
 use Rattle.rules.proofs.Sums.{sum-cong}
 
-filled-nothing : {A : Type 0} (nothing : A) (n : ℕ) → Filled nothing (λ k. nothing) n (replicate 64 nothing)
+filled-nothing : {A : Type 0} (nothing : A) (n : ℕ) → Filled nothing (λ k. nothing) n (replicate mostParties nothing)
 filled-nothing nothing n =
-    record { size = length-replicate 64 nothing; below = λ k b. all-nothing nothing 64 k; past = λ k b. all-nothing nothing 64 k }
+    record { size = length-replicate mostParties nothing; below = λ k b. all-nothing nothing mostParties k; past = λ k b. all-nothing nothing mostParties k }
 
 no-remainder : (n : ℕ) (share : ℕ → ℕ) (k : ℕ) → 0 ≡ remainder n share 0 k
 unfolding remainder
@@ -57,9 +58,9 @@ module _ (shares : List ℕ) (startable : Startable shares) (share : List ℕ) (
         «sum_wh» = 0;
         left = 0;
         share = share;
-        remainder = replicate 64 0;
-        extra = replicate 64 0;
-        figures = replicate 64 (pos 0);
+        remainder = replicate mostParties 0;
+        extra = replicate mostParties 0;
+        figures = replicate mostParties (pos 0);
       })
   unfolding W at
   started w e =

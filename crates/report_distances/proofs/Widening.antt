@@ -18,7 +18,7 @@ pub record Widening (least most here : List ℤ) (n i : ℕ) (smallest largest :
   pub small : Upto (pos 0) (smallerIn least here) n i smallest
   pub large : Upto (pos 0) (largerIn most here) n i largest
 
-pub widen-start : (least most here : List ℤ) (n : ℕ) → Widening least most here n 0 (replicate 64 (pos 0)) (replicate 64 (pos 0))
+pub widen-start : (least most here : List ℤ) (n : ℕ) → Widening least most here n 0 (replicate mostParties (pos 0)) (replicate mostParties (pos 0))
 widen-start least most here n = record { small = upto-start (pos 0) _ n; large = upto-start (pos 0) _ n }
 
 -- what the code chose of the bits of two figures
