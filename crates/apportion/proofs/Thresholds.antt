@@ -78,7 +78,8 @@ before-lower rest i j b =
     (λ (e : rest i ≡ rest j).
     omega (arith, before-is rest j i, less-one (rest i) (rest j + less j i) (omega (arith, less-one j i b)), less-zero (rest i) (rest j) (omega arith), same-one (rest j) (rest i) (sym e)))
     (λ (l : rest j < rest i).
-    omega (arith, before-is rest j i, less-zero (rest i) (rest j + less j i) (omega (arith, less-at-most-one j i)), less-zero (rest i) (rest j) (omega arith), same-zero (rest j) (rest i) (λ e. omega arith))))
+    let behind = less-zero (rest i) (rest j + less j i) (omega (arith, less-at-most-one j i)) in
+    omega (arith, before-is rest j i, behind, less-zero (rest i) (rest j) (omega arith), same-zero (rest j) (rest i) (λ e. omega arith))))
     (three-ways (rest i) (rest j))
 
 before-higher : (rest : ℕ → ℕ) (i j : ℕ) → i ≤ j → before rest j i ≡ less (rest i) (rest j)
@@ -245,7 +246,11 @@ module _ {rest : List ℕ} {n v spare given i : ℕ} (c : Cutting rest n v spare
 
   module _ {one : ℕ} (b : i < n) (e : one ≡ sameNumber (getD rest i 0) v) where
     cut-one : one ≤ 1
-    cut-one = ⊎-elim (λ (s : getD rest i 0 ≡ v). omega (arith, e, same-one (getD rest i 0) v s)) (λ (d : getD rest i 0 ≡ v → ⊥). omega (arith, e, same-zero (getD rest i 0) v d)) (alike (getD rest i 0) v)
+    cut-one =
+        ⊎-elim
+        (λ (s : getD rest i 0 ≡ v). omega (arith, e, same-one (getD rest i 0) v s))
+        (λ (d : getD rest i 0 ≡ v → ⊥). omega (arith, e, same-zero (getD rest i 0) v d))
+        (alike (getD rest i 0) v)
 
     pub cut-next : (given ≡ spare → ⊥) → Cutting rest n v spare (given + one) (i + 1)
     unfolding at

@@ -108,8 +108,11 @@ module _ (shares residuals : List ℕ) (size : ℕ) (asked : Distributable share
           parties = next .parties ∙ d .parties;
           share = subst (λ (l : List ℕ). Filled 0 (at shares) (length shares) l) (sym (next .share)) (d .share);
           sum-is = rw (add-one t) (next .sum ∙ ap (λ (x : ℕ). x + getD residuals t 0) (d .sum-is));
-          filling = on (distributedAt shares residuals) (length residuals * length shares) (d .filling) (omega (arith, d .place-is, room)) (λ i l. next .figures .below i (omega (arith, d .parties)) ∙ figure-there i l);
+          filling = on _ _ (d .filling) (omega (arith, d .place-is, room)) there;
         }
+      where
+        there : (i : ℕ) → i < length shares → getD (e .figures) i (pos 0) ≡ distributedAt shares residuals (place + i)
+        there i l = next .figures .below i (omega (arith, d .parties)) ∙ figure-there i l
 
   pub hours-end :
       {lent : List ℤ} {c : Carries} {place t : ℕ}

@@ -95,6 +95,7 @@ above-digits {x} p = rw (lt-leb x 57 p) (never (leb 48 x))
 pub walk-next : {l : List ℕ} {n w i v : ℕ} → Walking l n w i → i < glnDigits → 48 ≤ getD l i 0 → getD l i 0 ≤ 57 → v ≡ weightFromRight (glnDigits - 1 - i)
     → Walking l (n * 10 + (getD l i 0 - 48)) (w + v * (getD l i 0 - 48)) (i + 1)
 walk-next {l} {n} {w} {i} {v} h b low high e =
+    let one-less : glnDigits - suc i ≡ glnDigits - 1 - i = omega arith in
     rw (add-one i, e)
     (record {
       bound = omega arith;
@@ -102,7 +103,7 @@ walk-next {l} {n} {w} {i} {v} h b low high e =
       digits = ap (λ (t : Bool). t && allDigits (drop (suc i) l)) (sym (digit low high)) ∙ digits-here h b;
       value = value-here h b;
       small = omega (arith, h .small, pow-suc 10 i);
-      weighed = let s : glnDigits - suc i ≡ glnDigits - 1 - i = omega arith in ap (λ (k : ℕ). w + weightFromRight (glnDigits - 1 - i) * (getD l i 0 - 48) + sum k (weighing l)) s ∙ omega (arith, weighed-here h b);
+      weighed = ap (λ (k : ℕ). w + weightFromRight (glnDigits - 1 - i) * (getD l i 0 - 48) + sum k (weighing l)) one-less ∙ omega (arith, weighed-here h b);
       light = omega (arith, h .light, weighs-at-most (glnDigits - 1 - i) refl high);
     })
 

@@ -81,4 +81,27 @@ returns : tie.Need-returns Inv-loop μ-loop
 returns c = widen-end (c .before .loop .inv) (omega arith)
 
 pub widened-spec : {M : Type 1} → statement M
-widened-spec = tie.close (tie.spec Inv-loop μ-loop loop-holds mul-smaller-of element-copy-out-smaller-of mul-smaller-of-2 element-copy-out-smaller-of-2 smaller-of-requires mul-smallest array-set-from-smallest mul-larger-of element-copy-out-larger-of mul-larger-of-2 element-copy-out-larger-of-2 larger-of-requires mul-largest array-set-from-largest add-i loop-less loop-again returns)
+widened-spec =
+    tie.close
+    (tie.spec
+    Inv-loop
+    μ-loop
+    loop-holds
+    mul-smaller-of
+    element-copy-out-smaller-of
+    mul-smaller-of-2
+    element-copy-out-smaller-of-2
+    smaller-of-requires
+    mul-smallest
+    array-set-from-smallest
+    mul-larger-of
+    element-copy-out-larger-of
+    mul-larger-of-2
+    element-copy-out-larger-of-2
+    larger-of-requires
+    mul-largest
+    array-set-from-largest
+    add-i
+    loop-less
+    loop-again
+    returns)
