@@ -1,4 +1,5 @@
 pub mod Totals
+pub mod Dividing
 pub mod Step
 pub mod Start
 pub mod Shares

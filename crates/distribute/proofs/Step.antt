@@ -3,13 +3,14 @@
 use mathlib.Core.List.{List}
 use mathlib.Core.Path.{_≡_, refl, sym, _∙_, ap, ap₂}
 use Prim.Native.Nat.{ℕ, _+_, _-_, _*_, _/_, _%_, _≤_, _<_}
-use native.Mathlib.Nat.{le-trans, mod-lt, mul-add, mul-le-mul, div-mul-le-self, div-add-mod', mod-add-mod}
+use native.Mathlib.Nat.{le-trans, mod-lt, mul-add, mul-le-mul, mod-add-mod}
 use native.Mathlib.Omega.{arith}
 use lib.IntN.{ℤ, pos}
 use Rattle.distribute.specs.declared.Carries.{Carries}
+use Rattle.distribute.specs.declared.Divided.{Divided}
 use Rattle.apportion.specs.Filled.{Filled}
 use Rattle.distribute.specs.Good.{Ready, Next, shareIn, extraAfter, figureAfter}
-use Rattle.distribute.specs.Parts.{grownBy, quotientBy, restBy, figureBy, SmallParts}
+use Rattle.distribute.specs.Parts.{grownBy, quotientBy, restBy, DividedBy, figureBy, SmallParts}
 use Rattle.apportion.proofs.Arrays.{filled-as}
 use Rattle.apportion.proofs.Order.{one-each-cong}
 use Rattle.rules.specs.Distributed.{roundedDown, remainder, leftOver, oneEach, runningSum}
@@ -77,13 +78,13 @@ module _ {c : Carries} {x : ℕ} (ready : Ready c x) where
     unfolding at grownBy
     grown-is k b = grown-filled .below k b ∙ ap (λ (y : ℕ). y + share k * x) (kept k b)
 
-    module _ {quotient : List ℕ} (quotient-filled : Filled 0 (quotientBy grown (c .w)) n quotient) where
+    module _ {d : Divided} (divided : DividedBy grown (c .w) n d) where
+      abbrev quotient : List ℕ
+      quotient = d .quotient
+
       quotient-is : (k : ℕ) → k < n → at quotient k ≡ at grown k / c .w
       unfolding at quotientBy
-      quotient-is k b = quotient-filled .below k b
-
-      pub rests-ask : (k : ℕ) → k < n → at quotient k * c .w ≤ at grown k
-      rests-ask k b = rw (quotient-is k b) (div-mul-le-self (at grown k) (c .w))
+      quotient-is k b = divided .quotients .below k b
 
       floor-is : (k : ℕ) → k < n → roundedDown n share (r + x) k ≡ roundedDown n share r k + at quotient k
       floor-is k b =
@@ -109,66 +110,62 @@ module _ {c : Carries} {x : ℕ} (ready : Ready c x) where
       left-is e =
           omega (arith, e, ready .good .left, floors-are, floors-at-most n share some r, floors-at-most n share some (r + x))
 
-      module _ {rest : List ℕ} (rest-filled : Filled 0 (restBy grown quotient (c .w)) n rest) where
-        rest-is : (k : ℕ) → k < n → restBy grown quotient (c .w) k ≡ remainder n share (r + x) k
-        unfolding restBy
-        rest-is k b =
-            let divided : at grown k / c .w * c .w + at grown k % c .w ≡ at grown k = div-add-mod' (at grown k) (c .w) in
-            let taken : at grown k - at quotient k * c .w ≡ at grown k % c .w = rw (quotient-is k b) (omega arith) in
-            taken ∙ ap₂ (λ (a w : ℕ). a % w) (grown-is k b) (ready .good .w-is) ∙ remainder-moves n share some r x k
+      rest-is : (k : ℕ) → k < n → restBy grown (c .w) k ≡ remainder n share (r + x) k
+      unfolding restBy
+      rest-is k b = ap₂ (λ (a w : ℕ). a % w) (grown-is k b) (ready .good .w-is) ∙ remainder-moves n share some r x k
 
-        pub rests-filled : Filled 0 (remainder n share (r + x)) n rest
-        rests-filled = filled-as rest-filled rest-is
+      pub rests-filled : Filled 0 (remainder n share (r + x)) n (d .rest)
+      rests-filled = filled-as (divided .rests) rest-is
 
-        module _ {left : ℕ} (left-now : left ≡ leftOver n share (r + x)) {extra : List ℕ} (extra-filled : Filled 0 (oneEach n (at rest) left) n extra) where
-          pub extras-filled : Filled 0 (extraAfter n share (r + x)) n extra
-          unfolding at
-          extras-filled =
-              filled-as extra-filled
-              (λ k b.
-              one-each-cong n left k (λ j d. rests-filled .below j d) b
-              ∙ ap (λ (l : ℕ). oneEach n (remainder n share (r + x)) l k) left-now)
+      module _ {left : ℕ} (left-now : left ≡ leftOver n share (r + x)) {extra : List ℕ} (extra-filled : Filled 0 (oneEach n (at (d .rest)) left) n extra) where
+        pub extras-filled : Filled 0 (extraAfter n share (r + x)) n extra
+        unfolding at
+        extras-filled =
+            filled-as extra-filled
+            (λ k b.
+            one-each-cong n left k (λ j d. rests-filled .below j d) b
+            ∙ ap (λ (l : ℕ). oneEach n (remainder n share (r + x)) l k) left-now)
 
-          extra-at : (k : ℕ) → k < n → at extra k ≡ extraAfter n share (r + x) k
-          unfolding at
-          extra-at k b = extras-filled .below k b
+        extra-at : (k : ℕ) → k < n → at extra k ≡ extraAfter n share (r + x) k
+        unfolding at
+        extra-at k b = extras-filled .below k b
 
-          had-at : (k : ℕ) → k < n → at (c .extra) k ≡ extraAfter n share r k
-          unfolding at
-          had-at k b = ready .good .extras .below k b
+        had-at : (k : ℕ) → k < n → at (c .extra) k ≡ extraAfter n share r k
+        unfolding at
+        had-at k b = ready .good .extras .below k b
 
-          pub parts-small : (k : ℕ) → k < n → SmallParts quotient extra (c .extra) k
-          parts-small k b =
-              let one = one-at-most n (remainder n share (r + x)) (leftOver n share (r + x)) k in
+        pub parts-small : (k : ℕ) → k < n → SmallParts quotient extra (c .extra) k
+        parts-small k b =
+            let one = one-at-most n (remainder n share (r + x)) (leftOver n share (r + x)) k in
+            record {
+              grown = omega (arith, sum-member n (at quotient) b, quotients-few, left-few, ready .sum-fits, extra-at k b, one);
+              had = omega (arith, had-at k b, one-at-most n (remainder n share r) (leftOver n share r) k);
+            }
+
+        figure-is : (k : ℕ) → k < n → figureBy quotient extra (c .extra) k ≡ figureAfter n share r x k
+        unfolding figureBy figureAfter runningSum
+        figure-is k b =
+            minus-cong (at quotient k + at extra k) (at (c .extra) k) (runningSum n share (r + x) k) (runningSum n share r k)
+            (omega (arith, floor-is k b, extra-at k b, had-at k b))
+
+        module _ {figures : List ℤ} (figures-filled : Filled (pos 0) (figureBy quotient extra (c .extra)) n figures) where
+          pub next :
+              Next c x
+              (record { parties = n; w = c .w; «sum_wh» = r + x; left = left; share = c .share; remainder = d .rest; extra = extra; figures = figures })
+          next =
               record {
-                grown = omega (arith, sum-member n (at quotient) b, quotients-few, left-few, ready .sum-fits, extra-at k b, one);
-                had = omega (arith, had-at k b, one-at-most n (remainder n share r) (leftOver n share r) k);
+                good = record {
+                  few = ready .good .few;
+                  some = ready .good .some;
+                  w-is = ready .good .w-is;
+                  w-fits = ready .good .w-fits;
+                  shares = ready .good .shares;
+                  remainders = rests-filled;
+                  extras = extras-filled;
+                  left = left-now;
+                };
+                parties = refl;
+                share = refl;
+                sum = refl;
+                figures = filled-as figures-filled figure-is;
               }
-
-          figure-is : (k : ℕ) → k < n → figureBy quotient extra (c .extra) k ≡ figureAfter n share r x k
-          unfolding figureBy figureAfter runningSum
-          figure-is k b =
-              minus-cong (at quotient k + at extra k) (at (c .extra) k) (runningSum n share (r + x) k) (runningSum n share r k)
-              (omega (arith, floor-is k b, extra-at k b, had-at k b))
-
-          module _ {figures : List ℤ} (figures-filled : Filled (pos 0) (figureBy quotient extra (c .extra)) n figures) where
-            pub next :
-                Next c x
-                (record { parties = n; w = c .w; «sum_wh» = r + x; left = left; share = c .share; remainder = rest; extra = extra; figures = figures })
-            next =
-                record {
-                  good = record {
-                    few = ready .good .few;
-                    some = ready .good .some;
-                    w-is = ready .good .w-is;
-                    w-fits = ready .good .w-fits;
-                    shares = ready .good .shares;
-                    remainders = rests-filled;
-                    extras = extras-filled;
-                    left = left-now;
-                  };
-                  parties = refl;
-                  share = refl;
-                  sum = refl;
-                  figures = filled-as figures-filled figure-is;
-                }

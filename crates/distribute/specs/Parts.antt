@@ -1,7 +1,9 @@
 -- The parts of one step of the carries, each as a series.
 use mathlib.Core.List.{List}
-use Prim.Native.Nat.{ℕ, _+_, _-_, _*_, _/_, _<_}
+use Prim.Native.Nat.{ℕ, _+_, _*_, _/_, _%_, _<_}
 use lib.IntN.{ℤ, pos, _-ℤ_}
+use Rattle.apportion.specs.Filled.{Filled}
+use Rattle.distribute.specs.declared.Divided.{Divided}
 use Rattle.rules.specs.Words.{at}
 
 -- the kept remainder and what the hour adds: remainder + share x residual
@@ -13,8 +15,12 @@ unfoldable pub quotientBy : List ℕ → ℕ → ℕ → ℕ
 quotientBy grown w k = at grown k / w
 
 -- the remainder that is kept
-unfoldable pub restBy : List ℕ → List ℕ → ℕ → ℕ → ℕ
-restBy grown quotient w k = at grown k - at quotient k * w
+unfoldable pub restBy : List ℕ → ℕ → ℕ → ℕ
+restBy grown w k = at grown k % w
+
+pub record DividedBy (grown : List ℕ) (w n : ℕ) (d : Divided) : Type 0 where
+  pub quotients : Filled 0 (quotientBy grown w) n (d .quotient)
+  pub rests : Filled 0 (restBy grown w) n (d .rest)
 
 abbrev pub minus : ℕ → ℕ → ℤ
 minus a b = pos a -ℤ pos b

@@ -4,13 +4,13 @@
 use answer::Answer;
 use answer::Refusal;
 ghost use mathlib.Core.Path.{_≡_};
-ghost use Prim.Native.Nat.{ℕ, _+_, _-_, _*_, _≤_, _<_};
+ghost use Prim.Native.Nat.{ℕ, _+_, _≤_, _<_};
 ghost use lib.IntN.{pos};
 ghost use lib.ListN.{length};
 ghost use Rattle.answer.specs.Said.{said};
 ghost use Rattle.apportion.specs.Filled.{Filled};
 ghost use Rattle.distribute.specs.Good.{Startable, Started, Ready, Next};
-ghost use Rattle.distribute.specs.Parts.{grownBy, quotientBy, restBy, figureBy, minus, SmallParts};
+ghost use Rattle.distribute.specs.Parts.{grownBy, DividedBy, figureBy, minus, SmallParts};
 ghost use Rattle.distribute.specs.Shares.{wVerdict, FewShares};
 ghost use Rattle.distribute.specs.Written.{PutOn};
 ghost use Rattle.rules.specs.Limits.{mostParties};
@@ -34,6 +34,12 @@ pub struct Carries {
     pub figures: [i64; 64],
 }
 
+// A division by W, party by party.
+struct Divided {
+    quotient: [u64; 64],
+    rest: [u64; 64],
+}
+
 // The kept remainder and what the hour adds, party by party.
 fn grown_by(remainder: &[u64; 64], share: &[u64; 64], n: usize, residual: u64) -> [u64; 64]
     requires { ⌜ (n ≤ mostParties) × ((k : ℕ) → k < n → grownBy (now remainder) (now share) residual k < 18446744073709551616) ⌝ }
@@ -48,40 +54,21 @@ fn grown_by(remainder: &[u64; 64], share: &[u64; 64], n: usize, residual: u64) -
     grown
 }
 
-// What each floor grows by.
-fn quotients(grown: &[u64; 64], n: usize, w: u64) -> [u64; 64]
+// What each floor grows by, and the remainder that is kept.
+fn divide(grown: &[u64; 64], n: usize, w: u64) -> Divided
     requires { ⌜ (n ≤ mostParties) × (0 < w) ⌝ }
-    ensures { λ r. ⌜ Filled 0 (quotientBy (now (grown .entry)) w) n r ⌝ }
+    ensures { λ r. ⌜ DividedBy (now (grown .entry)) w n r ⌝ }
 {
     let mut quotient = [0u64; 64];
-    let mut i = 0;
-    while i < n {
-        quotient[i] = grown[i] / w;
-        i += 1;
-    }
-    quotient
-}
-
-// The remainder that is kept of one party.
-fn rest_of(grown: u64, quotient: u64, w: u64) -> u64
-    requires { ⌜ quotient * w ≤ grown ⌝ }
-    ensures { λ r. ⌜ r ≡ grown - quotient * w ⌝ }
-{
-    grown - quotient * w
-}
-
-// The remainders that are kept.
-fn rests(grown: &[u64; 64], quotient: &[u64; 64], n: usize, w: u64) -> [u64; 64]
-    requires { ⌜ (n ≤ mostParties) × ((k : ℕ) → k < n → at (now quotient) k * w ≤ at (now grown) k) ⌝ }
-    ensures { λ r. ⌜ Filled 0 (restBy (now (grown .entry)) (now (quotient .entry)) w) n r ⌝ }
-{
     let mut rest = [0u64; 64];
     let mut i = 0;
     while i < n {
-        rest[i] = rest_of(grown[i], quotient[i], w);
+        let sum = grown[i];
+        quotient[i] = sum / w;
+        rest[i] = sum % w;
         i += 1;
     }
-    rest
+    Divided { quotient, rest }
 }
 
 // The sum of the first n.
@@ -167,8 +154,9 @@ impl Carries {
         let before = self.extra;
         let residual = residual_wh as u64;
         let grown = grown_by(&remainder, &share, n, residual);
-        let quotient = quotients(&grown, n, w);
-        let rest = rests(&grown, &quotient, n, w);
+        let parts = divide(&grown, n, w);
+        let quotient = parts.quotient;
+        let rest = parts.rest;
         let left = self.left + residual - total(&quotient, n);
         let extra = apportion::one_each(&rest, n, left);
         let figures = figures_of(&quotient, &extra, &before, n);
