@@ -2,7 +2,9 @@
 use mathlib.Core.Path.{_≡_, refl, sym, _∙_, ap}
 use Rattle.answer.specs.Said.{named, said}
 use Rattle.answer.specs.declared.Refusal.{Refusal}
-use Rattle.answer.specs.declared.Refusal.the-variants.{FileFault, UnknownKind, OutOfOrder, OutOfRange, GlnFault, WOutOfRange, MissingHour, ResidualNegative, ResidualTooLarge, CurveTooLarge, SpanFault, EnergyTooLarge, NothingToFollow, PeriodisedTooLarge, WrongCount, WrongLength}
+use Rattle.answer.specs.declared.Refusal.the-variants.{FileFault, UnknownKind, OutOfOrder, OutOfRange, GlnFault, WOutOfRange}
+use Rattle.answer.specs.declared.Refusal.the-variants.{MissingHour, ResidualNegative, ResidualTooLarge, CurveTooLarge, SpanFault}
+use Rattle.answer.specs.declared.Refusal.the-variants.{EnergyTooLarge, NothingToFollow, PeriodisedTooLarge, WrongCount, WrongLength}
 use Rattle.answer.specs.declared.Answer.{Answer}
 use Rattle.answer.specs.declared.Answer.the-variants.{Done, Refused}
 use Rattle.rules.specs.Refusals as R

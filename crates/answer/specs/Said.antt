@@ -1,6 +1,8 @@
 -- What an answer of the code says in the words of the rules: for each case the paper's refusal and place.
 use Rattle.answer.specs.declared.Refusal.{Refusal}
-use Rattle.answer.specs.declared.Refusal.the-variants.{FileFault, UnknownKind, OutOfOrder, OutOfRange, GlnFault, WOutOfRange, MissingHour, ResidualNegative, ResidualTooLarge, CurveTooLarge, SpanFault, EnergyTooLarge, NothingToFollow, PeriodisedTooLarge, WrongCount, WrongLength}
+use Rattle.answer.specs.declared.Refusal.the-variants.{FileFault, UnknownKind, OutOfOrder, OutOfRange, GlnFault, WOutOfRange}
+use Rattle.answer.specs.declared.Refusal.the-variants.{MissingHour, ResidualNegative, ResidualTooLarge, CurveTooLarge, SpanFault}
+use Rattle.answer.specs.declared.Refusal.the-variants.{EnergyTooLarge, NothingToFollow, PeriodisedTooLarge, WrongCount, WrongLength}
 use Rattle.answer.specs.declared.Answer.{Answer}
 use Rattle.answer.specs.declared.Answer.the-variants.{Done, Refused}
 use Rattle.rules.specs.Refusals as R

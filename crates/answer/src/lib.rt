@@ -1,9 +1,10 @@
 // What a call answers: done, or refused by name at a place (01 "Refusal numbers"). The paper's number of each refusal stands in `rules`, once; `said`
 // of specs/Said.antt reads an answer as the verdict of the rules.
 ghost use mathlib.Core.Path.{_≡_};
+ghost use Rattle.answer.specs.Ranges.{betweenℤ};
 ghost use Rattle.answer.specs.Said.{named, said};
 ghost use Rattle.rules.specs.Refusals.{numberOf};
-ghost use Rattle.rules.specs.Services.{eachAt};
+ghost use Rattle.rules.specs.Services.{eachAt, eachAtℤ};
 ghost use Rattle.rules.specs.Words.{atMost};
 
 // The refusals, in the order of the paper's table.
@@ -77,6 +78,27 @@ pub fn each_at_most_u32(figures: &[u32], most: u32, otherwise: Refusal) -> Answe
     let mut i = 0;
     while i < figures.len() {
         if most < figures[i] {
+            return Answer::Refused(otherwise, i);
+        }
+        i += 1;
+    }
+    Answer::Done
+}
+
+// Whether a signed figure lies in a range, both of its ends within it.
+pub fn within_i64(figure: i64, lowest: i64, greatest: i64) -> bool
+    ensures { λ r. ⌜ r ≡ betweenℤ lowest greatest figure ⌝ }
+{
+    (lowest <= figure) & (figure <= greatest)
+}
+
+// The same of signed figures: the first that lies outside the range is refused at its place.
+pub fn each_within_i64(figures: &[i64], lowest: i64, greatest: i64, otherwise: Refusal) -> Answer
+    ensures { λ r. ⌜ said r ≡ eachAtℤ (now (figures .entry)) (betweenℤ lowest greatest) (named otherwise) ⌝ }
+{
+    let mut i = 0;
+    while i < figures.len() {
+        if !within_i64(figures[i], lowest, greatest) {
             return Answer::Refused(otherwise, i);
         }
         i += 1;

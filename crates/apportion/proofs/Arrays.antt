@@ -21,11 +21,16 @@ all-nothing nothing zero k = refl
 all-nothing nothing (suc n) zero = refl
 all-nothing nothing (suc n) (suc k) = all-nothing nothing n k
 
-pub filled-zeros : {A : Type 0} (nothing : A) (figure : ℕ → A) → Filled nothing figure 0 (replicate 64 nothing)
+pub filled-zeros : {A : Type 0} (nothing : A) (figure : ℕ → A) → Filled nothing figure 0 (replicate mostParties nothing)
 filled-zeros nothing figure =
-    filled-none nothing figure (replicate 64 nothing) (length-replicate 64 nothing) (all-nothing nothing 64)
+    filled-none nothing figure (replicate mostParties nothing) (length-replicate mostParties nothing) (all-nothing nothing mostParties)
 
-pub filled-next : {A : Type 0} {nothing : A} {figure : ℕ → A} {i : ℕ} {l : List A} {v : A} → Filled nothing figure i l → i < mostParties → v ≡ figure i → Filled nothing figure (i + 1) (set l i v)
+pub filled-next :
+    {A : Type 0} {nothing : A} {figure : ℕ → A} {i : ℕ} {l : List A} {v : A}
+    → Filled nothing figure i l
+    → i < mostParties
+    → v ≡ figure i
+    → Filled nothing figure (i + 1) (set l i v)
 filled-next {A} {nothing} {figure} {i} {l} {v} f b e =
     record { size = length-set l i v ∙ f .size; below = below′; past = λ k c. getD-set-other l i k v nothing (λ same. omega arith) ∙ f .past k (omega arith) }
   where
@@ -37,7 +42,11 @@ filled-next {A} {nothing} {figure} {i} {l} {v} f b e =
         (eq-or-lt-of-le (omega arith))
 
 -- the same series under another name
-pub filled-as : {A : Type 0} {nothing : A} {figure figure′ : ℕ → A} {n : ℕ} {l : List A} → Filled nothing figure n l → ((k : ℕ) → k < n → figure k ≡ figure′ k) → Filled nothing figure′ n l
+pub filled-as :
+    {A : Type 0} {nothing : A} {figure figure′ : ℕ → A} {n : ℕ} {l : List A}
+    → Filled nothing figure n l
+    → ((k : ℕ) → k < n → figure k ≡ figure′ k)
+    → Filled nothing figure′ n l
 filled-as f h = record { size = f .size; below = λ k b. f .below k b ∙ h k b; past = f .past }
 
 -- one series fills one list
@@ -59,10 +68,16 @@ pub record Upto {A : Type 0} (nothing : A) (figure : ℕ → A) (n i : ℕ) (l :
   pub bound : i ≤ n
   pub filled : Filled nothing figure i l
 
-pub upto-start : {A : Type 0} (nothing : A) (figure : ℕ → A) (n : ℕ) → Upto nothing figure n 0 (replicate 64 nothing)
+pub upto-start : {A : Type 0} (nothing : A) (figure : ℕ → A) (n : ℕ) → Upto nothing figure n 0 (replicate mostParties nothing)
 upto-start nothing figure n = record { bound = zero-le; filled = filled-zeros nothing figure }
 
-pub upto-next : {A : Type 0} {nothing : A} {figure : ℕ → A} {n i : ℕ} {l : List A} {v : A} → Upto nothing figure n i l → i < n → n ≤ mostParties → v ≡ figure i → Upto nothing figure n (i + 1) (set l i v)
+pub upto-next :
+    {A : Type 0} {nothing : A} {figure : ℕ → A} {n i : ℕ} {l : List A} {v : A}
+    → Upto nothing figure n i l
+    → i < n
+    → n ≤ mostParties
+    → v ≡ figure i
+    → Upto nothing figure n (i + 1) (set l i v)
 upto-next u b few e = record { bound = omega arith; filled = filled-next (u .filled) (omega arith) e }
 
 pub upto-end : {A : Type 0} {nothing : A} {figure : ℕ → A} {n i : ℕ} {l : List A} → Upto nothing figure n i l → n ≤ i → Filled nothing figure n l

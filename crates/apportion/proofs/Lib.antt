@@ -1,10 +1,4 @@
 pub mod Order
 pub mod Thresholds
 pub mod Arrays
-pub mod Totals
-pub mod Step
-pub mod Start
-pub mod Shares
-pub mod Running
-pub mod Demand
 pub mod Unique

@@ -12,7 +12,7 @@ use borrow.Author.Tests.{eq-eqb, ne-eqb}
 use lib.Bits.{bitAnd, bitOr, or-add-and, and-le-l, and-le-r}
 use lib.Dec.{ltb}
 use lib.ListN.{getD}
-use Rattle.apportion.specs.Parts.{belowNumber, sameNumber, beforeNumber}
+use Rattle.apportion.specs.Tests.{belowNumber, sameNumber, beforeNumber}
 use Rattle.apportion.specs.Threshold.{howManyAbove, howManyAt, Threshold, Cut}
 use Rattle.rules.specs.Distributed.{rank, oneEach}
 use Rattle.rules.specs.Words.{sum, count, at}
@@ -78,7 +78,8 @@ before-lower rest i j b =
     (λ (e : rest i ≡ rest j).
     omega (arith, before-is rest j i, less-one (rest i) (rest j + less j i) (omega (arith, less-one j i b)), less-zero (rest i) (rest j) (omega arith), same-one (rest j) (rest i) (sym e)))
     (λ (l : rest j < rest i).
-    omega (arith, before-is rest j i, less-zero (rest i) (rest j + less j i) (omega (arith, less-at-most-one j i)), less-zero (rest i) (rest j) (omega arith), same-zero (rest j) (rest i) (λ e. omega arith))))
+    let behind = less-zero (rest i) (rest j + less j i) (omega (arith, less-at-most-one j i)) in
+    omega (arith, before-is rest j i, behind, less-zero (rest i) (rest j) (omega arith), same-zero (rest j) (rest i) (λ e. omega arith))))
     (three-ways (rest i) (rest j))
 
 before-higher : (rest : ℕ → ℕ) (i j : ℕ) → i ≤ j → before rest j i ≡ less (rest i) (rest j)
@@ -160,7 +161,10 @@ bounded-start rest n = record { bound = zero-le; none = refl }
 pub bounded-next : {rest : List ℕ} {n most i next : ℕ} → Bounded rest n most i → i < n → (most ≤ next) × (getD rest i 0 ≤ next) → Bounded rest n next (i + 1)
 unfolding at
 bounded-next {rest} {n} {most} {i} {next} l b h =
-    record { bound = omega arith; none = rw (add-one i) (omega (arith, above-one-more i (at rest) next, above-falls i (at rest) most next (h .0), less-zero next (getD rest i 0) (h .1), l .none)) }
+    record {
+      bound = omega arith;
+      none = rw (add-one i) (omega (arith, above-one-more i (at rest) next, above-falls i (at rest) most next (h .0), less-zero next (getD rest i 0) (h .1), l .none));
+    }
 
 pub bounded-end : {rest : List ℕ} {n most i : ℕ} → Bounded rest n most i → n ≤ i → howManyAbove n (at rest) most ≡ 0
 bounded-end {rest} {n} {most} {i} l b =
@@ -175,7 +179,12 @@ pub record Counting (rest : List ℕ) (n v over i : ℕ) : Type 0 where
 pub count-start : (rest : List ℕ) (n v : ℕ) → Counting rest n v 0 n
 count-start rest n v = record { small = omega arith; counted = omega arith }
 
-pub count-next : {rest : List ℕ} {n v over i one : ℕ} → Counting rest n v over i → 0 < i → one ≡ belowNumber v (getD rest (i - 1) 0) → Counting rest n v (over + one) (i - 1)
+pub count-next :
+    {rest : List ℕ} {n v over i one : ℕ}
+    → Counting rest n v over i
+    → 0 < i
+    → one ≡ belowNumber v (getD rest (i - 1) 0)
+    → Counting rest n v (over + one) (i - 1)
 unfolding at
 count-next {rest} {n} {v} {over} {i} {one} c b e =
     let same-place : suc (i - 1) ≡ i = omega arith in
@@ -237,7 +246,11 @@ module _ {rest : List ℕ} {n v spare given i : ℕ} (c : Cutting rest n v spare
 
   module _ {one : ℕ} (b : i < n) (e : one ≡ sameNumber (getD rest i 0) v) where
     cut-one : one ≤ 1
-    cut-one = ⊎-elim (λ (s : getD rest i 0 ≡ v). omega (arith, e, same-one (getD rest i 0) v s)) (λ (d : getD rest i 0 ≡ v → ⊥). omega (arith, e, same-zero (getD rest i 0) v d)) (alike (getD rest i 0) v)
+    cut-one =
+        ⊎-elim
+        (λ (s : getD rest i 0 ≡ v). omega (arith, e, same-one (getD rest i 0) v s))
+        (λ (d : getD rest i 0 ≡ v → ⊥). omega (arith, e, same-zero (getD rest i 0) v d))
+        (alike (getD rest i 0) v)
 
     pub cut-next : (given ≡ spare → ⊥) → Cutting rest n v spare (given + one) (i + 1)
     unfolding at

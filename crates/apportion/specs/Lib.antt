@@ -1,6 +1,3 @@
 pub mod Filled
-pub mod Parts
+pub mod Tests
 pub mod Threshold
-pub mod Good
-pub mod Shares
-pub mod Demand

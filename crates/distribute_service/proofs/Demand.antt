@@ -6,8 +6,8 @@ use native.Mathlib.Nat.{add-zero, mul-le-mul-right, mul-add-div-right, mul-add-m
 use native.Mathlib.Omega.{arith}
 use lib.IntN.{pos}
 use lib.ListN.{length, getD}
-use Rattle.apportion.specs.Demand.{Demand3Of}
-use Rattle.apportion.proofs.Demand.{demand-3-of}
+use Rattle.distribute.specs.Demand.{Demand3Of}
+use Rattle.distribute.proofs.Demand.{demand-3-of}
 use Rattle.rules.specs.Distributed.{distributedFigure}
 use Rattle.rules.specs.Flows.{W}
 use Rattle.rules.specs.Services.{distributedAt, distributionFigures}

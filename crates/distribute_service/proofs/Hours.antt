@@ -7,43 +7,17 @@ use native.Mathlib.Numerals.{add-one}
 use native.Mathlib.Omega.{arith}
 use lib.IntN.{ℤ, pos, _-ℤ_}
 use lib.ListN.{length, getD, set, length-set}
-use Rattle.apportion.specs.declared.Carries.{Carries}
+use Rattle.distribute.specs.declared.Carries.{Carries}
 use Rattle.apportion.specs.Filled.{Filled}
-use Rattle.apportion.specs.Good.{Good, Started, Ready, Next, shareIn, figureAfter}
-use Rattle.apportion.proofs.Running.{running-same}
-use Rattle.distribute_service.specs.Service.{FilledOn, Distributable}
+use Rattle.distribute.specs.Good.{Good, Started, Ready, Next, shareIn, figureAfter}
+use Rattle.distribute.proofs.Running.{running-same}
+use Rattle.distribute.specs.Written.{FilledOn}
+use Rattle.distribute_service.specs.Service.{Distributable}
 use Rattle.rules.specs.Distributed.{runningAfter, distributedFigure}
+use Rattle.rules.specs.Limits.{greatestResidual}
 use Rattle.rules.specs.Services.{distributedAt, distributionFigures}
 use Rattle.rules.specs.Words.{sum, at, figures}
 use Rattle.rules.proofs.Loops.{Filling, fill-start, fill-next, fill-end}
-
--- A loop that has put the first i of n figures from a place on.
-pub record Putting (figures : List ℤ) (n place : ℕ) (before : List ℤ) (i : ℕ) (after : List ℤ) : Type 0 where
-  pub bound : i ≤ n
-  pub size : length after ≡ length before
-  pub put : FilledOn figures i place before after
-
-pub put-start : (figures : List ℤ) (n place : ℕ) (before : List ℤ) → Putting figures n place before 0 before
-put-start figures n place before =
-    record { bound = zero-le; size = refl; put = λ series size filling fits same. subst (λ (k : ℕ). Filling series size before k) (sym (add-zero place)) filling }
-
-pub put-next :
-    {figures : List ℤ} {n place : ℕ} {before : List ℤ} {i : ℕ} {after : List ℤ}
-    → Putting figures n place before i after
-    → i < n
-    → Putting figures n place before (i + 1) (set after (place + i) (getD figures i (pos 0)))
-put-next {figures} {n} {place} {before} {i} {after} p b =
-    record { bound = omega arith; size = length-set after (place + i) (getD figures i (pos 0)) ∙ p .size; put = more }
-  where
-    more : FilledOn figures (i + 1) place before (set after (place + i) (getD figures i (pos 0)))
-    more series size filling fits same =
-        subst (λ (k : ℕ). Filling series size (set after (place + i) (getD figures i (pos 0))) k) (add-assoc place i 1)
-        (fill-next (p .put series size filling (omega arith) (λ j d. same j (omega arith))) (omega arith) (same i (omega arith)))
-
-pub put-end : {figures : List ℤ} {n place : ℕ} {before : List ℤ} {i : ℕ} {after : List ℤ} → Putting figures n place before i after → n ≤ i → FilledOn figures n place before after
-put-end {figures} {n} {place} {before} {i} {after} p b =
-    let e : i ≡ n = le-antisymm (p .bound) b in
-    subst (λ (k : ℕ). FilledOn figures k place before after) e (p .put)
 
 -- The loop over the hours: after t of them the list holds their figures, and the carries are those of their residuals.
 pub record Distributing (shares residuals : List ℕ) (lent : List ℤ) (c : Carries) (place t : ℕ) : Type 0 where
@@ -59,10 +33,18 @@ module _ (shares residuals : List ℕ) (size : ℕ) (asked : Distributable share
   pub hours-start : {lent : List ℤ} {c : Carries} → length lent ≡ size → Started shares c → Distributing shares residuals lent c 0 0
   unfolding sum
   hours-start {lent} {c} e started =
-      record { bound = zero-le; place-is = sym (zero-mul (length shares)); good = started .good; parties = started .parties; share = started .share; sum-is = started .sum; filling = fill-start (distributedAt shares residuals) (e ∙ asked .size) }
+      record {
+        bound = zero-le;
+        place-is = sym (zero-mul (length shares));
+        good = started .good;
+        parties = started .parties;
+        share = started .share;
+        sum-is = started .sum;
+        filling = fill-start (distributedAt shares residuals) (e ∙ asked .size);
+      }
 
   -- the residuals so far are few enough to be added up
-  sum-bound : (t : ℕ) → t ≤ length residuals → sum t (at residuals) ≤ t * 2000000000
+  sum-bound : (t : ℕ) → t ≤ length residuals → sum t (at residuals) ≤ t * greatestResidual
   unfolding sum
   sum-bound zero b = omega arith
   sum-bound (suc t) b = omega (arith, sum-bound t (omega arith), asked .residuals-fit t b)
@@ -71,7 +53,11 @@ module _ (shares residuals : List ℕ) (size : ℕ) (asked : Distributable share
     pub ready : Ready c (getD residuals t 0)
     unfolding at
     ready =
-        record { good = d .good; at-most = asked .residuals-fit t b; sum-fits = omega (arith, d .sum-is, sum-bound t (d .bound), asked .residuals-fit t b, asked .few-hours) }
+        record {
+          good = d .good;
+          at-most = asked .residuals-fit t b;
+          sum-fits = omega (arith, d .sum-is, sum-bound t (d .bound), asked .residuals-fit t b, asked .few-hours);
+        }
 
     room : t * length shares + length shares ≤ length residuals * length shares
     room = omega (arith, mul-le-mul-right (length shares) b)
@@ -111,13 +97,28 @@ module _ (shares residuals : List ℕ) (size : ℕ) (asked : Distributable share
     pub hours-next :
         {e : Carries} {lent′ : List ℤ}
         → Next c (getD residuals t 0) e
-        → FilledOn (e .figures) (length shares) place lent lent′
+        → FilledOn (pos 0) (e .figures) (length shares) place lent lent′
         → Distributing shares residuals lent′ e (place + length shares) (t + 1)
     unfolding sum at
     hours-next {e} {lent′} next on =
-        record { bound = omega arith; place-is = omega (arith, d .place-is); good = next .good; parties = next .parties ∙ d .parties; share = subst (λ (l : List ℕ). Filled 0 (at shares) (length shares) l) (sym (next .share)) (d .share); sum-is = rw (add-one t) (next .sum ∙ ap (λ (x : ℕ). x + getD residuals t 0) (d .sum-is)); filling = on (distributedAt shares residuals) (length residuals * length shares) (d .filling) (omega (arith, d .place-is, room)) (λ i l. next .figures .below i (omega (arith, d .parties)) ∙ figure-there i l) }
+        record {
+          bound = omega arith;
+          place-is = omega (arith, d .place-is);
+          good = next .good;
+          parties = next .parties ∙ d .parties;
+          share = subst (λ (l : List ℕ). Filled 0 (at shares) (length shares) l) (sym (next .share)) (d .share);
+          sum-is = rw (add-one t) (next .sum ∙ ap (λ (x : ℕ). x + getD residuals t 0) (d .sum-is));
+          filling = on _ _ (d .filling) (omega (arith, d .place-is, room)) there;
+        }
+      where
+        there : (i : ℕ) → i < length shares → getD (e .figures) i (pos 0) ≡ distributedAt shares residuals (place + i)
+        there i l = next .figures .below i (omega (arith, d .parties)) ∙ figure-there i l
 
-  pub hours-end : {lent : List ℤ} {c : Carries} {place t : ℕ} → Distributing shares residuals lent c place t → length residuals ≤ t → lent ≡ distributionFigures shares residuals
+  pub hours-end :
+      {lent : List ℤ} {c : Carries} {place t : ℕ}
+      → Distributing shares residuals lent c place t
+      → length residuals ≤ t
+      → lent ≡ distributionFigures shares residuals
   unfolding distributionFigures
   hours-end {lent} {c} {place} {t} d b =
       let all : t ≡ length residuals = le-antisymm (d .bound) b in

@@ -1,29 +1,19 @@
 // The distribution service (01 "Distributed consumption"; H2 5.3): the residuals of a span of hours distributed on parties by their shares. It takes any
-// input; what it refuses, in which order and at which place stands in `distributionChecks` of the rules. `apportion` has the hour and its carries.
+// input; what it refuses, in which order and at which place stands in `distributionChecks` of the rules. `distribute` has the hour and its carries.
 use answer::Answer;
 use answer::Refusal;
 use answer::each_at_most_u32;
 use answer::each_at_most_u64;
-use apportion::Carries;
-use apportion::MOST_PARTIES;
-use apportion::w_in_range;
+use distribute::Carries;
+use distribute::w_in_range;
 ghost use mathlib.Core.Path.{_≡_};
-ghost use Prim.Native.Nat.{_+_, _*_, _≤_};
+ghost use Prim.Native.Nat.{_*_};
 ghost use lib.Dec.{eqb};
 ghost use lib.ListN.{length};
 ghost use Rattle.answer.specs.Said.{said};
-ghost use Rattle.distribute_service.specs.Service.{shapeVerdict, FilledOn, Distributable};
+ghost use Rattle.distribute_service.specs.Service.{shapeVerdict, Distributable};
 ghost use Rattle.rules.specs.Refusals.{first, afterwards};
 ghost use Rattle.rules.specs.Services.{distributionChecks, distributionFigures};
-
-// "H 1..745."
-const MOST_HOURS: usize = 745;
-
-// "Load share 0..4,000,000,000"
-const GREATEST_SHARE: u64 = 4000000000;
-
-// "Residual 0..2,000,000,000."
-const GREATEST_RESIDUAL: u32 = 2000000000;
 
 // Whether a lent output has a place for each party in each hour; by division, since the product could pass 64 bits.
 fn lent_right(lent: usize, parties: usize, hours: usize) -> bool
@@ -45,31 +35,12 @@ fn shape(lent: usize, parties: usize, hours: usize) -> Answer
     if !lent_right(lent, parties, hours) {
         return Answer::Refused(Refusal::WrongLength, 0);
     }
-    if hours < 1 {
-        return Answer::Refused(Refusal::OutOfRange, 0);
-    }
-    if MOST_HOURS < hours {
-        return Answer::Refused(Refusal::OutOfRange, 0);
-    }
-    if parties < 1 {
-        return Answer::Refused(Refusal::OutOfRange, 0);
-    }
-    if MOST_PARTIES < parties {
+    if !((1 <= hours)
+        & (hours <= limits::MOST_HOURS)
+        & ((1 <= parties) & (parties <= limits::MOST_PARTIES))) {
         return Answer::Refused(Refusal::OutOfRange, 0);
     }
     Answer::Done
-}
-
-// The hour's figures into a lent list, from a place on.
-fn put_hour(figures: &[i64; 64], n: usize, out: &mut [i64], place: usize)
-    requires { ⌜ (n ≤ 64) × (place + n ≤ length (now out)) ⌝ }
-    ensures { λ r. ⌜ FilledOn (now (figures .entry)) n place (now (out .entry)) (now (out .exit)) ⌝ }
-{
-    let mut i = 0;
-    while i < n {
-        out[place + i] = figures[i];
-        i += 1;
-    }
 }
 
 // All hours in turn, each from the carries of the hour before.
@@ -84,7 +55,7 @@ fn distribute(shares: &[u64], residuals: &[u32], out: &mut [i64])
     while t < residuals.len() {
         carries = carries.step(residuals[t]);
         let figures = carries.figures;
-        put_hour(&figures, n, out, place);
+        distribute::put_figures(&figures, n, out, place);
         place += n;
         t += 1;
     }
@@ -100,7 +71,7 @@ pub fn distribution(shares: &[u64], residuals: &[u32], out: &mut [i64]) -> Answe
     let Answer::Done = shaped else {
         return shaped;
     };
-    let fitting = each_at_most_u64(shares, GREATEST_SHARE, Refusal::OutOfRange);
+    let fitting = each_at_most_u64(shares, limits::GREATEST_SHARE_KWH, Refusal::OutOfRange);
     let Answer::Done = fitting else {
         return fitting;
     };
@@ -108,7 +79,11 @@ pub fn distribution(shares: &[u64], residuals: &[u32], out: &mut [i64]) -> Answe
     let Answer::Done = weighed else {
         return weighed;
     };
-    let limited = each_at_most_u32(residuals, GREATEST_RESIDUAL, Refusal::ResidualTooLarge);
+    let limited = each_at_most_u32(
+        residuals,
+        limits::GREATEST_RESIDUAL_WH,
+        Refusal::ResidualTooLarge,
+    );
     let Answer::Done = limited else {
         return limited;
     };

@@ -14,6 +14,7 @@ use lib.Seq.{drop-cons}
 use Rattle.gln.specs.Gln.{glnAnswer, glnPart}
 use Rattle.gln.specs.declared.Gln.the-variants.{Valid, Invalid}
 use Rattle.rules.specs.Gln.{allDigits, digitFromRight, weightFromRight, weightedSum, validGln, digitsOnto}
+use Rattle.rules.specs.Limits.{glnDigits}
 use Rattle.rules.specs.Words.{sum, at, within}
 
 -- a digit with its weight, at its place from the right
@@ -22,23 +23,23 @@ weighing l k = weightFromRight k * digitFromRight l k
 
 -- Before place i: the number and the weighted sum of the digits that were passed.
 pub record Walking (l : List ℕ) (number weighted i : ℕ) : Type 0 where
-  pub bound : i ≤ 13
-  pub size : length l ≡ 13
+  pub bound : i ≤ glnDigits
+  pub size : length l ≡ glnDigits
   pub digits : allDigits (drop i l) ≡ allDigits l
   pub value : digitsOnto number (drop i l) ≡ digitsOnto 0 l
   pub small : number < 10 ^ i
-  pub weighed : weighted + sum (13 - i) (weighing l) ≡ weightedSum l
+  pub weighed : weighted + sum (glnDigits - i) (weighing l) ≡ weightedSum l
   pub light : weighted ≤ 27 * i
 
-pub walk-start : {l : List ℕ} → length l ≡ 13 → Walking l 0 0 0
+pub walk-start : {l : List ℕ} → length l ≡ glnDigits → Walking l 0 0 0
 unfolding weightedSum
 walk-start {l} e =
     record { bound = zero-le; size = e; digits = refl; value = refl; small = omega arith; weighed = omega (arith, ap (λ (n : ℕ). sum n (weighing l)) e); light = zero-le }
 
-pub number-fits : {l : List ℕ} {n w i : ℕ} → Walking l n w i → i < 13 → n < 10 ^ 12
+pub number-fits : {l : List ℕ} {n w i : ℕ} → Walking l n w i → i < glnDigits → n < 10 ^ 12
 number-fits {l} {n} {w} {i} h b = let q : i ≤ 12 = omega arith in let p : 10 ^ i ≤ 10 ^ 12 = pow-le-pow-right {n = 10} (omega arith) q in omega (arith, h .small)
 
-module _ {l : List ℕ} {n w i : ℕ} (h : Walking l n w i) (b : i < 13) where
+module _ {l : List ℕ} {n w i : ℕ} (h : Walking l n w i) (b : i < glnDigits) where
   here : drop i l ≡ getD l i 0 ∷ drop (suc i) l
   here = drop-cons l i 0 (omega (arith, h .size))
 
@@ -46,17 +47,17 @@ module _ {l : List ℕ} {n w i : ℕ} (h : Walking l n w i) (b : i < 13) where
   unfolding allDigits
   digits-here = ap allDigits (sym here) ∙ h .digits
 
-  weighing-here : weighing l (12 - i) ≡ weightFromRight (12 - i) * (getD l i 0 - 48)
+  weighing-here : weighing l (glnDigits - 1 - i) ≡ weightFromRight (glnDigits - 1 - i) * (getD l i 0 - 48)
   unfolding digitFromRight at
   weighing-here =
-      let e : length l - 1 - (12 - i) ≡ i = omega (arith, h .size) in
-      ap (λ (k : ℕ). weightFromRight (12 - i) * (getD l k 0 - 48)) e
+      let e : length l - 1 - (glnDigits - 1 - i) ≡ i = omega (arith, h .size) in
+      ap (λ (k : ℕ). weightFromRight (glnDigits - 1 - i) * (getD l k 0 - 48)) e
 
-  weighed-here : w + (sum (12 - i) (weighing l) + weightFromRight (12 - i) * (getD l i 0 - 48)) ≡ weightedSum l
+  weighed-here : w + (sum (glnDigits - 1 - i) (weighing l) + weightFromRight (glnDigits - 1 - i) * (getD l i 0 - 48)) ≡ weightedSum l
   unfolding sum
   weighed-here =
-      let e : 13 - i ≡ suc (12 - i) = omega arith in
-      ap (λ (x : ℕ). w + (sum (12 - i) (weighing l) + x)) (sym weighing-here)
+      let e : glnDigits - i ≡ suc (glnDigits - 1 - i) = omega arith in
+      ap (λ (x : ℕ). w + (sum (glnDigits - 1 - i) (weighing l) + x)) (sym weighing-here)
       ∙ ap (λ (k : ℕ). w + sum k (weighing l)) (sym e)
       ∙ h .weighed
 
@@ -91,9 +92,10 @@ above-digits {x} p = rw (lt-leb x 57 p) (never (leb 48 x))
     never true = refl
     never false = refl
 
-pub walk-next : {l : List ℕ} {n w i v : ℕ} → Walking l n w i → i < 13 → 48 ≤ getD l i 0 → getD l i 0 ≤ 57 → v ≡ weightFromRight (12 - i)
+pub walk-next : {l : List ℕ} {n w i v : ℕ} → Walking l n w i → i < glnDigits → 48 ≤ getD l i 0 → getD l i 0 ≤ 57 → v ≡ weightFromRight (glnDigits - 1 - i)
     → Walking l (n * 10 + (getD l i 0 - 48)) (w + v * (getD l i 0 - 48)) (i + 1)
 walk-next {l} {n} {w} {i} {v} h b low high e =
+    let one-less : glnDigits - suc i ≡ glnDigits - 1 - i = omega arith in
     rw (add-one i, e)
     (record {
       bound = omega arith;
@@ -101,29 +103,29 @@ walk-next {l} {n} {w} {i} {v} h b low high e =
       digits = ap (λ (t : Bool). t && allDigits (drop (suc i) l)) (sym (digit low high)) ∙ digits-here h b;
       value = value-here h b;
       small = omega (arith, h .small, pow-suc 10 i);
-      weighed = let s : 13 - suc i ≡ 12 - i = omega arith in ap (λ (k : ℕ). w + weightFromRight (12 - i) * (getD l i 0 - 48) + sum k (weighing l)) s ∙ omega (arith, weighed-here h b);
-      light = omega (arith, h .light, weighs-at-most (12 - i) refl high);
+      weighed = ap (λ (k : ℕ). w + weightFromRight (glnDigits - 1 - i) * (getD l i 0 - 48) + sum k (weighing l)) one-less ∙ omega (arith, weighed-here h b);
+      light = omega (arith, h .light, weighs-at-most (glnDigits - 1 - i) refl high);
     })
 
 -- Bytes of another length, or with one that is no digit, or with a weighted sum that is no multiple of 10, are no GLN; all others are.
-pub other-length : (l : List ℕ) → (length l ≡ 13 → ⊥) → Invalid ≡ glnAnswer l
+pub other-length : (l : List ℕ) → (length l ≡ glnDigits → ⊥) → Invalid ≡ glnAnswer l
 unfolding glnAnswer validGln
-other-length l h = rw (ne-eqb (length l) 13 h)
+other-length l h = rw (ne-eqb (length l) glnDigits h)
 
-no-digit : (l : List ℕ) → length l ≡ 13 → allDigits l ≡ false → Invalid ≡ glnAnswer l
+no-digit : (l : List ℕ) → length l ≡ glnDigits → allDigits l ≡ false → Invalid ≡ glnAnswer l
 unfolding glnAnswer validGln
-no-digit l e d = rw (eq-eqb (length l) 13 e, d)
+no-digit l e d = rw (eq-eqb (length l) glnDigits e, d)
 
-stop : {l : List ℕ} {n w i : ℕ} → Walking l n w i → i < 13 → within 48 57 (getD l i 0) ≡ false → Invalid ≡ glnAnswer l
+stop : {l : List ℕ} {n w i : ℕ} → Walking l n w i → i < glnDigits → within 48 57 (getD l i 0) ≡ false → Invalid ≡ glnAnswer l
 stop {l} {n} {w} {i} h b e = no-digit l (h .size) (sym (digits-here h b) ∙ ap (λ (t : Bool). t && allDigits (drop (suc i) l)) e)
 
-pub stop-below : {l : List ℕ} {n w i : ℕ} → Walking l n w i → i < 13 → getD l i 0 < 48 → Invalid ≡ glnAnswer l
+pub stop-below : {l : List ℕ} {n w i : ℕ} → Walking l n w i → i < glnDigits → getD l i 0 < 48 → Invalid ≡ glnAnswer l
 stop-below h b p = stop h b (below-digits p)
 
-pub stop-above : {l : List ℕ} {n w i : ℕ} → Walking l n w i → i < 13 → 57 < getD l i 0 → Invalid ≡ glnAnswer l
+pub stop-above : {l : List ℕ} {n w i : ℕ} → Walking l n w i → i < glnDigits → 57 < getD l i 0 → Invalid ≡ glnAnswer l
 stop-above h b p = stop h b (above-digits p)
 
-module _ {l : List ℕ} {n w i : ℕ} (h : Walking l n w i) (b : 13 ≤ i) where
+module _ {l : List ℕ} {n w i : ℕ} (h : Walking l n w i) (b : glnDigits ≤ i) where
   nothing-left : drop i l ≡ []
   nothing-left = let e : length l ≤ i = omega (arith, h .size) in drop-of-length-le l e
 
@@ -133,21 +135,21 @@ module _ {l : List ℕ} {n w i : ℕ} (h : Walking l n w i) (b : 13 ≤ i) where
 
   all-weighed : w ≡ weightedSum l
   unfolding sum
-  all-weighed = let e : 13 - i ≡ 0 = omega arith in omega (arith, ap (λ (k : ℕ). w + sum k (weighing l)) e, h .weighed)
+  all-weighed = let e : glnDigits - i ≡ 0 = omega arith in omega (arith, ap (λ (k : ℕ). w + sum k (weighing l)) e, h .weighed)
 
   pub end-other : (w % 10 ≡ 0 → ⊥) → Invalid ≡ glnAnswer l
   unfolding glnAnswer validGln
-  end-other p = rw (eq-eqb (length l) 13 (h .size), ← all-digits, ← all-weighed, ne-eqb (w % 10) 0 p)
+  end-other p = rw (eq-eqb (length l) glnDigits (h .size), ← all-digits, ← all-weighed, ne-eqb (w % 10) 0 p)
 
   pub end-valid : w % 10 ≡ 0 → Valid n ≡ glnAnswer l
   unfolding glnAnswer validGln digitsOnto
-  end-valid p = rw (eq-eqb (length l) 13 (h .size), ← all-digits, ← all-weighed, eq-eqb (w % 10) 0 p) (ap Valid (ap (digitsOnto n) (sym nothing-left) ∙ h .value))
+  end-valid p = rw (eq-eqb (length l) glnDigits (h .size), ← all-digits, ← all-weighed, eq-eqb (w % 10) 0 p) (ap Valid (ap (digitsOnto n) (sym nothing-left) ∙ h .value))
 
 -- The part: thirteen bytes from a place on, or none.
-pub part-there : (file : List ℕ) (p : ℕ) → p + 13 ≤ length file → take (p + 13 - p) (drop p file) ≡ glnPart file p
+pub part-there : (file : List ℕ) (p : ℕ) → p + glnDigits ≤ length file → take (p + glnDigits - p) (drop p file) ≡ glnPart file p
 unfolding glnPart
-part-there file p h = let e : p + 13 - p ≡ 13 = omega arith in rw (le-leb (p + 13) (length file) h, e)
+part-there file p h = let e : p + glnDigits - p ≡ glnDigits = omega arith in rw (le-leb (p + glnDigits) (length file) h, e)
 
-pub part-past : (file : List ℕ) (p : ℕ) → length file < p + 13 → [] ≡ glnPart file p
+pub part-past : (file : List ℕ) (p : ℕ) → length file < p + glnDigits → [] ≡ glnPart file p
 unfolding glnPart
-part-past file p h = rw (lt-leb (p + 13) (length file) h)
+part-past file p h = rw (lt-leb (p + glnDigits) (length file) h)

@@ -4,9 +4,6 @@ ghost use mathlib.Core.Path.{_≡_};
 ghost use Rattle.gln.specs.Gln.{glnAnswer, glnPart};
 ghost use Rattle.rules.specs.Gln.{weightFromRight};
 
-// "13 ASCII digits"
-pub const DIGITS: usize = 13;
-
 // A GLN's thirteen digits as one number, or the answer that it is none.
 pub enum Gln {
     Valid(u64),
@@ -27,13 +24,13 @@ fn weight(place: usize) -> u64
 pub fn check(part: &[u8]) -> Gln
     ensures { λ r. ⌜ r ≡ glnAnswer (now (part .entry)) ⌝ }
 {
-    if part.len() != DIGITS {
+    if part.len() != limits::GLN_DIGITS {
         return Gln::Invalid;
     }
     let mut number: u64 = 0;
     let mut weighted: u64 = 0;
     let mut i: usize = 0;
-    while i < DIGITS {
+    while i < limits::GLN_DIGITS {
         let byte = part[i];
         if byte < b'0' {
             return Gln::Invalid;
@@ -43,7 +40,7 @@ pub fn check(part: &[u8]) -> Gln
         }
         let digit = (byte - b'0') as u64;
         number = number * 10 + digit;
-        weighted += weight(DIGITS - 1 - i) * digit;
+        weighted += weight(limits::GLN_DIGITS - 1 - i) * digit;
         i += 1;
     }
     if weighted % 10 != 0 {
@@ -56,12 +53,12 @@ pub fn check(part: &[u8]) -> Gln
 pub fn part_at<'a>(file: &'a [u8], at: usize) -> &'a [u8]
     ensures { λ r. ⌜ now r ≡ glnPart (now (file .entry)) at ⌝ }
 {
-    if file.len() < DIGITS {
+    if file.len() < limits::GLN_DIGITS {
         return &file[0..0];
     }
-    if file.len() - DIGITS < at {
+    if file.len() - limits::GLN_DIGITS < at {
         return &file[0..0];
     }
-    let end = at + DIGITS;
+    let end = at + limits::GLN_DIGITS;
     &file[at..end]
 }

@@ -8,7 +8,7 @@ use Rattle.answer.specs.Said.{said, named}
 use Rattle.answer.specs.declared.Answer.{Answer}
 use Rattle.answer.specs.declared.Answer.the-variants.{Done, Refused}
 use Rattle.answer.specs.declared.Refusal.{Refusal}
-use Rattle.apportion.specs.Shares.{wVerdict, FewShares}
+use Rattle.distribute.specs.Shares.{wVerdict, FewShares}
 use Rattle.file_sections.specs.Walk.{Accepted}
 use Rattle.file_sections.specs.declared.Sections.{Sections}
 use Rattle.file_sections.proofs.AcceptedFile.{month-whole}

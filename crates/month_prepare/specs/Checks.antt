@@ -6,8 +6,8 @@ use Prim.Native.Nat.{ℕ, suc, _≤_, _<_}
 use lib.IntN.{pos}
 use lib.ListN.{length, replicate}
 use Rattle.answer.specs.Said.{said}
-use Rattle.apportion.specs.Good.{Started}
-use Rattle.apportion.specs.declared.Carries.{Carries}
+use Rattle.distribute.specs.Good.{Started}
+use Rattle.distribute.specs.declared.Carries.{Carries}
 use Rattle.month_prepare.specs.declared.Made.{Made}
 use Rattle.file_sections.specs.Walk.{Accepted}
 use Rattle.file_sections.specs.declared.Sections.{Sections}

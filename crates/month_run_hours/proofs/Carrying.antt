@@ -6,8 +6,8 @@ use native.Mathlib.Nat.{le-antisymm}
 use native.Mathlib.Numerals.{add-one}
 use native.Mathlib.Omega.{arith}
 use lib.ListN.{getD}
-use Rattle.apportion.specs.Good.{Ready, Next}
-use Rattle.apportion.specs.declared.Carries.{Carries}
+use Rattle.distribute.specs.Good.{Ready, Next}
+use Rattle.distribute.specs.declared.Carries.{Carries}
 use Rattle.month_walk.proofs.Bounds.{sums-fitℕ}
 use Rattle.month_run_hours.specs.Running.{Steppable, Stepped}
 use Rattle.rules.specs.Words.{sum, at}

@@ -5,7 +5,7 @@ use Prim.Native.Nat.{ℕ, _≤_, _<_}
 use native.Mathlib.Omega.{arith}
 use lib.ListN.{length}
 use Rattle.apportion.specs.Filled.{Filled}
-use Rattle.apportion.specs.declared.Carries.{Carries}
+use Rattle.distribute.specs.declared.Carries.{Carries}
 use Rattle.month_sums.specs.Windows.{Beginning}
 use Rattle.file_sections.specs.declared.Sections.{Sections}
 use Rattle.month_walk.specs.Hours.{Carried}

@@ -6,8 +6,8 @@ use native.Mathlib.Nat.{add-zero, add-assoc, mul-le-mul-right, mul-add-div-right
 use native.Mathlib.Omega.{arith}
 use lib.IntN.{ℤ}
 use lib.ListN.{length}
-use Rattle.apportion.specs.Good.{Ready, Next}
-use Rattle.apportion.specs.declared.Carries.{Carries}
+use Rattle.distribute.specs.Good.{Ready, Next}
+use Rattle.distribute.specs.declared.Carries.{Carries}
 use Rattle.file_sections.specs.declared.Sections.{Sections}
 use Rattle.file_sections.proofs.AcceptedFile.{parties-are}
 use Rattle.hour_settled.specs.declared.Settled.{Settled}

@@ -6,7 +6,7 @@ use native.Mathlib.Nat.{add-zero, add-assoc, zero-mul, le-antisymm}
 use native.Mathlib.Omega.{arith}
 use lib.IntN.{ℤ}
 use lib.ListN.{length, getD}
-use Rattle.apportion.specs.declared.Carries.{Carries}
+use Rattle.distribute.specs.declared.Carries.{Carries}
 use Rattle.month_sums.specs.Windows.{Span, windowPlaces}
 use Rattle.month_sums.proofs.OneWindow as W
 use Rattle.month_sums.proofs.Spans as S

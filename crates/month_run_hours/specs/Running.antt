@@ -4,8 +4,8 @@ use mathlib.Core.Path.{_≡_}
 use Prim.Native.Nat.{ℕ, _+_, _*_, _≤_, _<_}
 use lib.IntN.{ℤ, pos}
 use lib.ListN.{length, getD, set}
-use Rattle.apportion.specs.Good.{Good}
-use Rattle.apportion.specs.declared.Carries.{Carries}
+use Rattle.distribute.specs.Good.{Good}
+use Rattle.distribute.specs.declared.Carries.{Carries}
 use Rattle.month_sums.specs.Windows.{MonthKnown}
 use Rattle.file_sections.specs.declared.Sections.{Sections}
 use Rattle.hour_settled.specs.declared.Settled.{Settled}

@@ -1,7 +1,7 @@
 // The hours of a run (01 "Distributed consumption", "Periodised consumption", "Reconciliation"), of a month that no check refuses: of each hour every party's
 // distributed, periodised and difference, and the loss, written to lent outputs. Hours go in windows, so that no buffer of this crate is larger than 64 KiB,
 // and a reading costs its own hours of a window alone.
-use apportion::Carries;
+use distribute::Carries;
 use file_sections::Sections;
 use hour_settled::Settled;
 ghost use mathlib.Core.Path.{_≡_};

@@ -7,10 +7,10 @@ use native.Mathlib.Omega.{arith}
 use lib.IntN.{pos, _-ℤ_}
 use lib.ListN.{length}
 use Rattle.apportion.specs.Filled.{Filled}
-use Rattle.apportion.specs.Good.{Started, Ready, Next, shareIn, figureAfter}
-use Rattle.apportion.specs.declared.Carries.{Carries}
+use Rattle.distribute.specs.Good.{Started, Ready, Next, shareIn, figureAfter}
+use Rattle.distribute.specs.declared.Carries.{Carries}
 use Rattle.apportion.proofs.Arrays.{filled-as}
-use Rattle.apportion.proofs.Running.{running-same}
+use Rattle.distribute.proofs.Running.{running-same}
 use Rattle.month_walk.specs.Hours.{DistributedIs, Carried}
 use Rattle.month_walk.proofs.Bounds.{few-hours, sums-fitℕ}
 use Rattle.rules.specs.Distributed.{runningAfter, distributedFigure}

@@ -6,8 +6,8 @@ use lib.Dec.{leb}
 use lib.IntN.{ℤ, pos}
 use lib.ListN.{length}
 use Rattle.apportion.specs.Filled.{Filled}
-use Rattle.apportion.specs.Good.{Good}
-use Rattle.apportion.specs.declared.Carries.{Carries}
+use Rattle.distribute.specs.Good.{Good}
+use Rattle.distribute.specs.declared.Carries.{Carries}
 use Rattle.file_sections.specs.Walk.{Accepted}
 use Rattle.file_sections.specs.declared.Sections.{Sections}
 use Rattle.hour_settled.specs.Column.{column, Column, addable}

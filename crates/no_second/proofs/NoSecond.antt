@@ -56,7 +56,13 @@ whole-files =
 
 answers : Answers
 unfolding OneFits
-answers = record { number = λ r. one-value _; each-at-most = λ values most otherwise a b p q. said-once a b (p ∙ sym q) }
+answers =
+    record {
+      number = λ r. one-value _;
+      each-at-most = λ values most otherwise a b p q. said-once a b (p ∙ sym q);
+      within = λ figure lowest greatest. one-value _;
+      each-within = λ figures lowest greatest otherwise a b p q. said-once a b (p ∙ sym q);
+    }
 
 pub no-second-result : NoSecondResult
 no-second-result = record { services = services; services-for-C = services-for-C; records = records; whole-files = whole-files; answers = answers }

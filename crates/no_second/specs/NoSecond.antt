@@ -7,6 +7,7 @@ use mathlib.Core.Path.{_≡_}
 use Prim.Native.Nat.{ℕ}
 use lib.IntN.{ℤ}
 use lib.ListN.{length}
+use Rattle.answer.specs.Ranges.{betweenℤ}
 use Rattle.answer.specs.Said.{named, said}
 use Rattle.answer.specs.declared.Answer.{Answer}
 use Rattle.answer.specs.declared.Refusal.{Refusal}
@@ -35,7 +36,7 @@ use Rattle.rules.specs.MonthFile.{readMonth}
 use Rattle.rules.specs.Reconciliation.{lossOf, invoiceOre}
 use Rattle.rules.specs.Record.{bodyLength, recordBytes, readAlone, writeVerdict, written}
 use Rattle.rules.specs.Refusals.{Verdict, numberOf, first, afterwards, answer}
-use Rattle.rules.specs.Services.{eachAt, residualChecks, residualFigures, curveChecks, curveFigures, distributionChecks, distributionFigures, periodisationChecks, periodisationFigures, reconciliationChecks, reconciliationLoss, reconciliationDifferences, reconciliationAmounts}
+use Rattle.rules.specs.Services.{eachAt, eachAtℤ, residualChecks, residualFigures, curveChecks, curveFigures, distributionChecks, distributionFigures, periodisationChecks, periodisationFigures, reconciliationChecks, reconciliationLoss, reconciliationDifferences, reconciliationAmounts}
 use Rattle.rules.specs.Words.{atMost}
 use Rattle.settle_c.specs.Coded.{coded, kept}
 use Rattle.statement_text.specs.Stating as Statement
@@ -153,6 +154,10 @@ pub record Answers : Type 0 where
   pub number : (r : Refusal) → OneFits (λ (n : ℕ). n ≡ numberOf (named r))
   pub each-at-most :
       (values : List ℕ) (most : ℕ) (otherwise : Refusal) → OneFits (λ (r : Answer). said r ≡ eachAt values (atMost most) (named otherwise))
+  pub within : (figure lowest greatest : ℤ) → OneFits (λ (r : Bool). r ≡ betweenℤ lowest greatest figure)
+  pub each-within :
+      (figures : List ℤ) (lowest greatest : ℤ) (otherwise : Refusal)
+      → OneFits (λ (r : Answer). said r ≡ eachAtℤ figures (betweenℤ lowest greatest) (named otherwise))
 
 -- NO SECOND RESULT FITS
 pub record NoSecondResult : Type 0 where

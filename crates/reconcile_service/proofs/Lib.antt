@@ -1,4 +1,3 @@
-pub mod Tests
 pub mod Figures
 pub mod Order
 pub mod Unique

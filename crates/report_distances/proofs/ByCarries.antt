@@ -6,11 +6,11 @@ use Prim.Native.Nat.{ℕ, _<_}
 use native.Mathlib.Omega.{arith}
 use lib.IntN.{ℤ, pos, _-ℤ_, _*ℤ_}
 use Rattle.apportion.specs.Filled.{Filled}
-use Rattle.apportion.specs.Good.{Good, shareIn, extraAfter}
-use Rattle.apportion.specs.declared.Carries.{Carries}
+use Rattle.distribute.specs.Good.{Good, shareIn, extraAfter}
+use Rattle.distribute.specs.declared.Carries.{Carries}
 use Rattle.apportion.proofs.Arrays.{filled-as}
 use Rattle.report_distances.specs.declared.Distances.{Distances}
-use Rattle.report_distances.specs.Extremes.{distanceIn, distanceOf, distanceBy, Near, smallerIn, largerIn, smallestWith, largestWith, With}
+use Rattle.report_distances.specs.Extremes.{distanceIn, distanceOf, distanceBy, Near, smallerIn, largerIn, Widened, smallestWith, largestWith, With}
 use Rattle.rules.specs.Demands.{exactShare}
 use Rattle.rules.specs.Distributed.{remainder, leftOver, runningSum}
 use Rattle.rules.specs.Flows.{W}
@@ -62,11 +62,16 @@ module _ {c : Carries} (good : Good c) where
     unfolding smallestWith largestWith
     with-first kept e = rw e (record { smallest = filled-as distances is-distance; largest = filled-as distances is-distance })
 
-    pub with-more : (kept : Distances) {first : Bool} → first ≡ false → {least most : List ℤ} → Filled (pos 0) (smallerIn (kept .smallest) here) n least → Filled (pos 0) (largerIn (kept .largest) here) n most → With kept c first (record { smallest = least; largest = most })
+    pub with-more :
+        (kept : Distances) {first : Bool}
+        → first ≡ false
+        → {r : Distances}
+        → Widened (kept .smallest) (kept .largest) here n r
+        → With kept c first r
     unfolding smallerIn largerIn smallestWith largestWith
-    with-more kept e least most =
+    with-more kept e r =
         rw e
         (record {
-          smallest = filled-as least (λ k b. ap (smaller (atℤ (kept .smallest) k)) (here-at k b));
-          largest = filled-as most (λ k b. ap (larger (atℤ (kept .largest) k)) (here-at k b));
+          smallest = filled-as (r .smallest) (λ k b. ap (smaller (atℤ (kept .smallest) k)) (here-at k b));
+          largest = filled-as (r .largest) (λ k b. ap (larger (atℤ (kept .largest) k)) (here-at k b));
         })

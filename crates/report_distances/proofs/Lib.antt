@@ -1,3 +1,4 @@
 pub mod Bounds
 pub mod Choosing
 pub mod ByCarries
+pub mod Widening

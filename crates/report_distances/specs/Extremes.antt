@@ -5,13 +5,13 @@ use Prim.Native.Nat.{ℕ, _*_, _≤_, _<_}
 use lib.IntN.{ℤ, pos, _-ℤ_, _*ℤ_}
 use lib.ListN.{replicate}
 use Rattle.apportion.specs.Filled.{Filled}
-use Rattle.apportion.specs.Good.{shareIn}
-use Rattle.apportion.specs.declared.Carries.{Carries}
+use Rattle.distribute.specs.Good.{shareIn}
+use Rattle.distribute.specs.declared.Carries.{Carries}
 use Rattle.report_distances.specs.declared.Distances.{Distances}
 use Rattle.rules.specs.Demands.{exactShare}
 use Rattle.rules.specs.Distributed.{runningSum}
 use Rattle.rules.specs.HoursReport.{smaller, larger}
-use Rattle.rules.specs.Limits.{greatestW}
+use Rattle.rules.specs.Limits.{mostParties, greatestW}
 use Rattle.rules.specs.Services.{atℤ}
 use Rattle.rules.specs.Words.{at}
 
@@ -40,6 +40,10 @@ smallerIn kept here i = smaller (atℤ kept i) (atℤ here i)
 unfoldable pub largerIn : List ℤ → List ℤ → ℕ → ℤ
 largerIn kept here i = larger (atℤ kept i) (atℤ here i)
 
+pub record Widened (least most here : List ℤ) (n : ℕ) (r : Distances) : Type 0 where
+  pub smallest : Filled (pos 0) (smallerIn least here) n (r .smallest)
+  pub largest : Filled (pos 0) (largerIn most here) n (r .largest)
+
 -- with one hour more, or with the first
 unfoldable pub smallestWith : Bool → List ℤ → (ℕ → ℤ) → ℕ → ℤ
 smallestWith first kept here i = cond first (here i) (smaller (atℤ kept i) (here i))
@@ -53,4 +57,4 @@ pub record With (kept : Distances) (c : Carries) (first : Bool) (r : Distances) 
 
 -- before the first hour
 abbrev pub noDistances : Distances
-noDistances = record { smallest = replicate 64 (pos 0); largest = replicate 64 (pos 0) }
+noDistances = record { smallest = replicate mostParties (pos 0); largest = replicate mostParties (pos 0) }

@@ -1,14 +1,15 @@
 // How far each party's running sum is from its exact share, hour by hour (00 "Has any supplier been pushed the same way all month?"): the smallest and the
 // largest so far, in W-ths of a Wh. The carries of an hour tell the distance without the running sum: a party that has one of the Wh left over is W less its
 // remainder above, another its remainder below.
-use apportion::Carries;
+use distribute::Carries;
 ghost use mathlib.Core.Path.{_≡_};
 ghost use Prim.Native.Nat.{ℕ, _≤_, _<_};
 ghost use lib.IntN.{pos};
 ghost use Rattle.apportion.specs.Filled.{Filled};
-ghost use Rattle.apportion.specs.Good.{Good};
-ghost use Rattle.report_distances.specs.Extremes.{distanceOf, Near, distanceBy, smallerIn, largerIn, noDistances, With};
+ghost use Rattle.distribute.specs.Good.{Good};
+ghost use Rattle.report_distances.specs.Extremes.{distanceOf, Near, distanceBy, Widened, noDistances, With};
 ghost use Rattle.rules.specs.HoursReport.{smaller, larger};
+ghost use Rattle.rules.specs.Limits.{mostParties};
 ghost use Rattle.rules.specs.Words.{at};
 
 // The smallest and the largest distance of each party so far.
@@ -27,7 +28,7 @@ fn distance(extra: u64, remainder: u64, w: u64) -> i64
 
 // Of all parties.
 fn distances_of(extra: &[u64; 64], remainder: &[u64; 64], n: usize, w: u64) -> [i64; 64]
-    requires { ⌜ (n ≤ 64) × ((k : ℕ) → k < n → Near (at (now extra) k) (at (now remainder) k) w) ⌝ }
+    requires { ⌜ (n ≤ mostParties) × ((k : ℕ) → k < n → Near (at (now extra) k) (at (now remainder) k) w) ⌝ }
     ensures { λ r. ⌜ Filled (pos 0) (distanceBy (now (extra .entry)) (now (remainder .entry)) w) n r ⌝ }
 {
     let mut here = [0i64; 64];
@@ -51,32 +52,20 @@ fn larger_of(kept: i64, here: i64) -> i64
     if kept < here { here } else { kept }
 }
 
-// The smaller of the kept and the hour's, party by party.
-fn smallest_of(kept: &[i64; 64], here: &[i64; 64], n: usize) -> [i64; 64]
-    requires { ⌜ n ≤ 64 ⌝ }
-    ensures { λ r. ⌜ Filled (pos 0) (smallerIn (now (kept .entry)) (now (here .entry))) n r ⌝ }
+// The smaller and the larger of the kept and the hour's, party by party.
+fn widened(least: &[i64; 64], most: &[i64; 64], here: &[i64; 64], n: usize) -> Distances
+    requires { ⌜ n ≤ mostParties ⌝ }
+    ensures { λ r. ⌜ Widened (now (least .entry)) (now (most .entry)) (now (here .entry)) n r ⌝ }
 {
     let mut smallest = [0i64; 64];
-    let mut i = 0;
-    while i < n {
-        smallest[i] = smaller_of(kept[i], here[i]);
-        i += 1;
-    }
-    smallest
-}
-
-// And the larger.
-fn largest_of(kept: &[i64; 64], here: &[i64; 64], n: usize) -> [i64; 64]
-    requires { ⌜ n ≤ 64 ⌝ }
-    ensures { λ r. ⌜ Filled (pos 0) (largerIn (now (kept .entry)) (now (here .entry))) n r ⌝ }
-{
     let mut largest = [0i64; 64];
     let mut i = 0;
     while i < n {
-        largest[i] = larger_of(kept[i], here[i]);
+        smallest[i] = smaller_of(least[i], here[i]);
+        largest[i] = larger_of(most[i], here[i]);
         i += 1;
     }
-    largest
+    Distances { smallest, largest }
 }
 
 // Before the first hour there is no distance.
@@ -108,8 +97,6 @@ impl Distances {
         }
         let least = self.smallest;
         let most = self.largest;
-        let smallest = smallest_of(&least, &here, n);
-        let largest = largest_of(&most, &here, n);
-        Distances { smallest, largest }
+        widened(&least, &most, &here, n)
     }
 }

@@ -9,10 +9,10 @@ use lib.Dec.{eqb, lit<}
 use lib.IntN.{ℤ, pos, _-ℤ_, _*ℤ_}
 use lib.ListN.{length}
 use Rattle.apportion.specs.Filled.{Filled}
-use Rattle.apportion.specs.Good.{Next}
-use Rattle.apportion.specs.declared.Carries.{Carries}
+use Rattle.distribute.specs.Good.{Next}
+use Rattle.distribute.specs.declared.Carries.{Carries}
 use Rattle.apportion.proofs.Arrays.{filled-as}
-use Rattle.apportion.proofs.Running.{running-same}
+use Rattle.distribute.proofs.Running.{running-same}
 use Rattle.report_distances.specs.Extremes.{distanceIn, smallestWith, largestWith, With}
 use Rattle.report_distances.specs.declared.Distances.{Distances}
 use Rattle.hour_settled.specs.Column.{column, Column, EachInHour, addable}

@@ -10,7 +10,7 @@ use Rattle.answer.specs.Said.{said}
 use Rattle.answer.specs.declared.Answer.{Answer}
 use Rattle.answer.specs.declared.Answer.the-variants.{Done, Refused}
 use Rattle.answer.specs.declared.Refusal.{Refusal}
-use Rattle.apportion.specs.declared.Carries.{Carries}
+use Rattle.distribute.specs.declared.Carries.{Carries}
 use Rattle.report_distances.specs.Extremes.{noDistances}
 use Rattle.month_sums.specs.Windows.{MonthKnown, Beginning, windowPlaces, verdictFrom}
 use Rattle.month_sums.proofs.AllWindows.{passed-on, refused-here, inside}

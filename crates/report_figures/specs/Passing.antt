@@ -7,8 +7,8 @@ use lib.IntN.{ℤ, pos}
 use lib.ListN.{set}
 use Rattle.answer.specs.Said.{said}
 use Rattle.apportion.specs.Filled.{Filled}
-use Rattle.apportion.specs.Good.{Ready, Next}
-use Rattle.apportion.specs.declared.Carries.{Carries}
+use Rattle.distribute.specs.Good.{Ready, Next}
+use Rattle.distribute.specs.declared.Carries.{Carries}
 use Rattle.report_distances.specs.Extremes.{With}
 use Rattle.report_distances.specs.declared.Distances.{Distances}
 use Rattle.month_sums.specs.Windows.{verdictFrom}

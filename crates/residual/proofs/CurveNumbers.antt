@@ -15,7 +15,7 @@ use Rattle.rules.specs.Services.{checkAt, eachAt, curveFits, curveChecks}
 use Rattle.rules.specs.Words.{at, atMost, within}
 use Rattle.rules.proofs.Refusals.{accepted-exactly, in-turn-exactly, unless-exactly}
 use Rattle.rules.proofs.Whole.{within-is}
-use Rattle.residual.proofs.Checks.{grouped}
+use Rattle.answer.proofs.Checks.{grouped}
 use Rattle.residual.specs.Passes.{curveShape, CurveReady}
 
 -- what an accepted shape says
@@ -43,7 +43,11 @@ module _ (residuals : List ℕ) (w : ℕ) where
   unfolding checkAt curveFits unless
   number-passes t e h = rw (sym e, le-leb _ greatestCurveNumber h)
 
-  pub number-stops : (t : ℕ) {n : ℕ} → n ≡ curveNumber (at residuals t) w → greatestCurveNumber < n → checkAt residuals (curveFits w) curveTooLarge t ≡ refused curveTooLarge t
+  pub number-stops :
+      (t : ℕ) {n : ℕ}
+      → n ≡ curveNumber (at residuals t) w
+      → greatestCurveNumber < n
+      → checkAt residuals (curveFits w) curveTooLarge t ≡ refused curveTooLarge t
   unfolding checkAt curveFits unless
   number-stops t e h = rw (sym e, lt-leb _ greatestCurveNumber h)
 

@@ -28,19 +28,19 @@ is-negative zero r present below = absurd (present refl)
 is-negative (suc status) (pos n) present below = absurd (omega (arith, ltb-true n 0 below))
 is-negative (suc status) (negsuc n) present below = refl
 
-pub is-figure : (status : ℕ) (r : ℤ) → (status ≡ 0 → ⊥) → ltZ r (pos 0) ≡ false → ltZ r (pos 2000000001) ≡ true → figure (natAbs r) ≡ judgedBy status r
+pub is-figure : (status : ℕ) (r : ℤ) → (status ≡ 0 → ⊥) → ltZ r (pos 0) ≡ false → ltZ r (pos (suc greatestResidual)) ≡ true → figure (natAbs r) ≡ judgedBy status r
 unfolding judgedBy
 is-figure zero r present low high = absurd (present refl)
-is-figure (suc status) (pos n) present low high = rw (le-leb n greatestResidual (omega (arith, ltb-true n 2000000001 high)))
+is-figure (suc status) (pos n) present low high = rw (le-leb n greatestResidual (omega (arith, ltb-true n (suc greatestResidual) high)))
 is-figure (suc status) (negsuc n) present low high = absurd (contrary low)
 
-pub is-too-large : (status : ℕ) (r : ℤ) → (status ≡ 0 → ⊥) → ltZ r (pos 0) ≡ false → ltZ r (pos 2000000001) ≡ false → noFigure residualTooLarge ≡ judgedBy status r
+pub is-too-large : (status : ℕ) (r : ℤ) → (status ≡ 0 → ⊥) → ltZ r (pos 0) ≡ false → ltZ r (pos (suc greatestResidual)) ≡ false → noFigure residualTooLarge ≡ judgedBy status r
 unfolding judgedBy
 is-too-large zero r present low high = absurd (present refl)
-is-too-large (suc status) (pos n) present low high = rw (lt-leb n greatestResidual (omega (arith, ltb-false n 2000000001 high)))
+is-too-large (suc status) (pos n) present low high = rw (lt-leb n greatestResidual (omega (arith, ltb-false n (suc greatestResidual) high)))
 is-too-large (suc status) (negsuc n) present low high = absurd (contrary low)
 
 -- a figure fits 32 bits
-pub figure-fits : (r : ℤ) → ltZ r (pos 0) ≡ false → ltZ r (pos 2000000001) ≡ true → T (nonNeg r) × Fits w32 (natAbs r)
-figure-fits (pos n) low high = (tt, record { fits = omega (arith, ltb-true n 2000000001 high) })
+pub figure-fits : (r : ℤ) → ltZ r (pos 0) ≡ false → ltZ r (pos (suc greatestResidual)) ≡ true → T (nonNeg r) × Fits w32 (natAbs r)
+figure-fits (pos n) low high = (tt, record { fits = omega (arith, ltb-true n (suc greatestResidual) high) })
 figure-fits (negsuc n) low high = absurd (contrary low)

@@ -10,7 +10,9 @@ use lib.Seq.{take-all}
 use Rattle.rules.specs.Flows.{Flows, appliedSeries}
 use Rattle.residual.specs.Applied.{appliedOf}
 
-pub applied-series : (figure : Flows → ℕ) (fixed refixed : List Flows) → map figure (appliedSeries fixed refixed) ≡ appliedOf (map figure fixed) (map figure refixed) (leb 1 (length refixed))
+pub applied-series :
+    (figure : Flows → ℕ) (fixed refixed : List Flows)
+    → map figure (appliedSeries fixed refixed) ≡ appliedOf (map figure fixed) (map figure refixed) (leb 1 (length refixed))
 unfolding appliedSeries appliedOf
 applied-series figure fixed [] = refl
 applied-series figure fixed (r ∷ refixed) = rw (le-leb 1 (length (r ∷ refixed)) (omega arith))

@@ -17,7 +17,13 @@ use Rattle.rules.specs.Refusals.{Verdict, numberOf, first, afterwards}
 use Rattle.rules.specs.Services.{curveChecks, curveFigures}
 
 -- a verdict and what it leaves in a lent list fix the answer and the list
-pub fixed : {A : Type 0} (verdict : Verdict) (new old : List A) (a b : Answer) (out out′ : List A) → said a ≡ verdict → out ≡ afterwards (said a) new old → said b ≡ verdict → out′ ≡ afterwards (said b) new old → (a ≡ b) × (out ≡ out′)
+pub fixed :
+    {A : Type 0} (verdict : Verdict) (new old : List A) (a b : Answer) (out out′ : List A)
+    → said a ≡ verdict
+    → out ≡ afterwards (said a) new old
+    → said b ≡ verdict
+    → out′ ≡ afterwards (said b) new old
+    → (a ≡ b) × (out ≡ out′)
 fixed verdict new old a b out out′ s o s′ o′ =
     (said-once a b (s ∙ sym s′), o ∙ ap (λ (v : Verdict). afterwards v new old) (s ∙ sym s′) ∙ sym o′)
 
@@ -31,7 +37,11 @@ pub curve-once :
 curve-once residuals w entry lent = fixed (first (curveChecks residuals w lent)) (curveFigures residuals w) entry
 
 -- THE APPLIED SERIES
-pub applied-once : (fixed refixed : List ℕ) (has-refixed : Bool) (r s : List ℕ) → r ≡ appliedOf fixed refixed has-refixed → s ≡ appliedOf fixed refixed has-refixed → r ≡ s
+pub applied-once :
+    (fixed refixed : List ℕ) (has-refixed : Bool) (r s : List ℕ)
+    → r ≡ appliedOf fixed refixed has-refixed
+    → s ≡ appliedOf fixed refixed has-refixed
+    → r ≡ s
 applied-once fixed refixed has-refixed r s e k = e ∙ sym k
 
 -- ONE HOUR: a judgement can be read back

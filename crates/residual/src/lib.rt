@@ -13,25 +13,13 @@ ghost use Rattle.residual.specs.Passes.{curveShape, CurveReady};
 use answer::Answer;
 use answer::Refusal;
 
-// "H 1..745."
-pub const MOST_HOURS: usize = 745;
+// The limits of signed and of wide figures.
+const GREATEST_RESIDUAL: i64 = limits::GREATEST_RESIDUAL_WH as i64;
 
-// "Each hour has a status: 0 missing, 1 measured, 2 estimated."
-const MISSING: u8 = 0;
-
-// "Residual 0..2,000,000,000."
-const GREATEST_RESIDUAL: u32 = 2_000_000_000;
-
-const GREATEST_RESIDUAL_WH: i64 = 2_000_000_000;
-
-// "W 1..4,000,000,000."
-const GREATEST_W: u64 = 4_000_000_000;
+const GREATEST_CURVE_NUMBER: u64 = limits::GREATEST_CURVE_NUMBER as u64;
 
 // "fixed residual x 1,000,000 / W"
 const CURVE_SCALE: u64 = 1_000_000;
-
-// "Curve number at most 1,000,000,000."
-const GREATEST_CURVE_NUMBER: u64 = 1_000_000_000;
 
 // What is decided of one hour: its residual in Wh, or why it has none.
 pub enum Hour {
@@ -46,10 +34,10 @@ pub fn judge(status: u8, residual_wh: i64) -> Hour
     ensures { λ r. ⌜ judgement r ≡ judgedBy status «residual_wh» ⌝ }
 {
     match status {
-        MISSING => Hour::Missing,
+        limits::MISSING => Hour::Missing,
         _ => match residual_wh {
             ..0 => Hour::Negative,
-            0..=GREATEST_RESIDUAL_WH => {
+            0..=GREATEST_RESIDUAL => {
                 let wh = residual_wh as u32;
                 Hour::Figure(wh)
             }
@@ -100,10 +88,10 @@ fn curve_shape(hours: usize, w: u64, lent: usize) -> Answer
     if lent != hours {
         return Answer::Refused(Refusal::WrongLength, 0);
     }
-    if !((1 <= hours) & (hours <= MOST_HOURS)) {
+    if !((1 <= hours) & (hours <= limits::MOST_HOURS)) {
         return Answer::Refused(Refusal::OutOfRange, 0);
     }
-    if !((1 <= w) & (w <= GREATEST_W)) {
+    if !((1 <= w) & (w <= limits::GREATEST_W_KWH)) {
         return Answer::Refused(Refusal::WOutOfRange, 0);
     }
     Answer::Done
@@ -146,7 +134,11 @@ pub fn curve(residuals: &[u32], w: u64, out: &mut [u32]) -> Answer
     let Answer::Done = shape else {
         return shape;
     };
-    let large = answer::each_at_most_u32(residuals, GREATEST_RESIDUAL, Refusal::ResidualTooLarge);
+    let large = answer::each_at_most_u32(
+        residuals,
+        limits::GREATEST_RESIDUAL_WH,
+        Refusal::ResidualTooLarge,
+    );
     let Answer::Done = large else {
         return large;
     };

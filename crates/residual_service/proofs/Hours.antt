@@ -22,21 +22,9 @@ use Rattle.rules.proofs.Refusals.{refused-not-accepted, accepted-exactly, in-tu
 use Rattle.rules.proofs.Whole.{within-size, both-pass}
 use Rattle.residual.specs.declared.Hour.{Hour}
 use Rattle.residual.specs.Hour.{judgement, flowsHere}
-use Rattle.residual.proofs.Checks.{grouped, past}
-use Rattle.residual_service.specs.Passes.{WithinLimitsAt, residualShape, rangesOf, SameLengths, Ranged, Judged}
-
--- every value of a list that was accepted
-pub each-within : (l : List ℕ) (most : ℕ) (r : Refusal) → eachAt l (atMost most) r ≡ accepted → (i : ℕ) → i < length l → at l i ≤ most
-unfolding eachAt checkAt atMost
-each-within l most r e i b =
-    leb-true (at l i) most
-    (unless-exactly (leb (at l i) most) r i .0 (in-turn-exactly (length l) (checkAt l (atMost most) r) .0 e i b))
-
-pub each-within-size : (l : List ℤ) (most : ℕ) (r : Refusal) → eachAtℤ l (withinℤ most) r ≡ accepted → (i : ℕ) → i < length l → natAbs (atℤ l i) ≤ most
-unfolding eachAtℤ checkAtℤ
-each-within-size l most r e i b =
-    within-size most (atℤ l i)
-    (unless-exactly (withinℤ most (atℤ l i)) r i .0 (in-turn-exactly (length l) (checkAtℤ l (withinℤ most) r) .0 e i b))
+use Rattle.answer.proofs.Checks.{grouped, past}
+use Rattle.answer.proofs.Ranges.{each-at-most, each-passes}
+use Rattle.residual_service.specs.Passes.{residualHere, WithinLimitsAt, residualShape, rangesOf, SameLengths, Ranged, Judged}
 
 -- what an accepted shape says of the lengths
 module _ (statuses nets productions hourlies flexes lent : ℕ) (e : residualShape statuses nets productions hourlies flexes lent ≡ accepted) where
@@ -84,7 +72,10 @@ module _ (statuses : List ℕ) (nets : List ℤ) (productions hourlies flexes : 
   unfolding residualChecks residualShape rangesOf
   in-parts lent = past _ _ _ (grouped (_ ∷ _ ∷ _ ∷ _ ∷ _ ∷ []) _) ∙ grouped (_ ∷ _ ∷ _ ∷ []) _
 
-  pub shape-lengths : (lent : ℕ) → residualShape (length statuses) (length nets) (length productions) (length hourlies) (length flexes) lent ≡ accepted → SameLengths statuses nets productions hourlies flexes
+  pub shape-lengths :
+      (lent : ℕ)
+      → residualShape (length statuses) (length nets) (length productions) (length hourlies) (length flexes) lent ≡ accepted
+      → SameLengths statuses nets productions hourlies flexes
   shape-lengths lent e =
       let same = shape-same (length statuses) (length nets) (length productions) (length hourlies) (length flexes) lent e in
       record { nets-many = same .0; productions-many = same .1; hourlies-many = same .2; flexes-many = same .3 }
@@ -94,16 +85,31 @@ module _ (statuses : List ℕ) (nets : List ℤ) (productions hourlies flexes : 
   within-limits h t b =
       let all = accepted-exactly _ .0 (h .ranges) in
       let same : SameLengths statuses nets productions hourlies flexes = h .lengths in
-      record { of-nets = omega arith; of-productions = omega arith; of-hourlies = omega arith; of-flexes = omega arith; limits = record { net-within = each-within-size nets greatestFlow outOfRange (all .1 .0) t (omega arith); production-within = each-within productions greatestFlow outOfRange (all .1 .1 .0) t (omega arith); hourly-within = each-within hourlies greatestFlow outOfRange (all .1 .1 .1 .0) t (omega arith); flex-within = each-within flexes greatestFlow outOfRange (all .1 .1 .1 .1 .0) t (omega arith) } }
+      record {
+        of-nets = omega arith;
+        of-productions = omega arith;
+        of-hourlies = omega arith;
+        of-flexes = omega arith;
+        limits = record {
+          net-within = within-size greatestFlow (atℤ nets t) (each-passes nets _ outOfRange (all .1 .0) t (omega arith));
+          production-within = each-at-most productions greatestFlow outOfRange (all .1 .1 .0) t (omega arith);
+          hourly-within = each-at-most hourlies greatestFlow outOfRange (all .1 .1 .1 .0) t (omega arith);
+          flex-within = each-at-most flexes greatestFlow outOfRange (all .1 .1 .1 .1 .0) t (omega arith);
+        };
+      }
 
   -- one hour: what the code's test of a silent hour says
-  pub silent-said : (t : ℕ) {net : ℤ} {b : Bool} → net ≡ atℤ nets t → b ≡ silentIsZero (flowsHere (at statuses t) net (at productions t) (at hourlies t) (at flexes t)) → b ≡ silentIsZero (flowsOf statuses nets productions hourlies flexes t)
+  pub silent-said :
+      (t : ℕ) {net : ℤ} {b : Bool}
+      → net ≡ atℤ nets t
+      → b ≡ silentIsZero (flowsHere (at statuses t) net (at productions t) (at hourlies t) (at flexes t))
+      → b ≡ silentIsZero (flowsOf statuses nets productions hourlies flexes t)
   unfolding flowsOf
   silent-said t e s = s ∙ rw e
 
   -- one hour: what the code says of it is its check
   pub hour-said :
-      (t : ℕ) {wh z : ℤ} (hour : Hour) (here : Answer) → wh ≡ residual (flowsHere 0 (atℤ nets t) (at productions t) (at hourlies t) (at flexes t))
+      (t : ℕ) {wh z : ℤ} (hour : Hour) (here : Answer) → wh ≡ residualHere nets productions hourlies flexes t
       → z ≡ wh
       → judgement hour ≡ judgedBy (at statuses t) z
       → said here ≡ verdictOf (judgement hour) t
@@ -112,7 +118,11 @@ module _ (statuses : List ℕ) (nets : List ℤ) (productions hourlies flexes : 
   hour-said t hour here r e j s = s ∙ rw (j, e, r)
 
   -- an hour of lists that were judged: its residual is a figure of 32 bits
-  pub judged-fits : Judged statuses nets productions hourlies flexes → (t : ℕ) → t < length statuses → T (nonNeg (residual (flowsOf statuses nets productions hourlies flexes t))) × Fits w32 (natAbs (residual (flowsOf statuses nets productions hourlies flexes t)))
+  pub judged-fits :
+      Judged statuses nets productions hourlies flexes
+      → (t : ℕ)
+      → t < length statuses
+      → T (nonNeg (residual (flowsOf statuses nets productions hourlies flexes t))) × Fits w32 (natAbs (residual (flowsOf statuses nets productions hourlies flexes t)))
   unfolding hourCheck judged flowsOf
   judged-fits h t b =
       let r = residual (flowsOf statuses nets productions hourlies flexes t) in
@@ -120,16 +130,31 @@ module _ (statuses : List ℕ) (nets : List ℤ) (productions hourlies flexes : 
       (f .0, record { fits = omega (arith, f .1) })
 
   -- what the code writes for such an hour is its figure, and no other
-  pub written-fits : Judged statuses nets productions hourlies flexes → (t : ℕ) → t < length statuses → {z : ℤ} → z ≡ residual (flowsHere 0 (atℤ nets t) (at productions t) (at hourlies t) (at flexes t)) → T (nonNeg z) × Fits w32 (natAbs z)
+  pub written-fits :
+      Judged statuses nets productions hourlies flexes
+      → (t : ℕ)
+      → t < length statuses
+      → {z : ℤ}
+      → z ≡ residualHere nets productions hourlies flexes t
+      → T (nonNeg z) × Fits w32 (natAbs z)
   unfolding flowsOf residual
   written-fits h t b e = rw e (judged-fits h t b)
 
-  pub written-is : (t : ℕ) {z : ℤ} → z ≡ residual (flowsHere 0 (atℤ nets t) (at productions t) (at hourlies t) (at flexes t)) → natAbs z ≡ residualAt statuses nets productions hourlies flexes t
+  pub written-is :
+      (t : ℕ) {z : ℤ}
+      → z ≡ residualHere nets productions hourlies flexes t
+      → natAbs z ≡ residualAt statuses nets productions hourlies flexes t
   unfolding residualAt residualWh flowsOf residual
   written-is t e = ap natAbs e
 
   -- A MISSING HOUR IS NEVER A ZERO: where the service accepts, no hour has status 0
-  pub no-missing-hour : (lent : ℕ) → first (residualChecks statuses nets productions hourlies flexes lent) ≡ accepted → (t : ℕ) → t < length statuses → at statuses t ≡ missing → ⊥
+  pub no-missing-hour :
+      (lent : ℕ)
+      → first (residualChecks statuses nets productions hourlies flexes lent) ≡ accepted
+      → (t : ℕ)
+      → t < length statuses
+      → at statuses t ≡ missing
+      → ⊥
   unfolding residualChecks hourCheck judged flowsOf residual
   no-missing-hour lent e t b silent =
       let hours = accepted-exactly _ .0 e .1 .1 .1 .1 .1 .1 .1 .1 .1 .0 in

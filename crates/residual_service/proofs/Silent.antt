@@ -16,6 +16,9 @@ zero-bits : (z : ℤ) → SFits w64 z → eqb (ofZ w64 z) 0 ≡ eqb (natAbs z) 0
 zero-bits (pos n) f = refl
 zero-bits (negsuc n) f = ne-eqb (2 ^ 64 - suc n) 0 (λ e. omega (arith, f .sfits, e)) ∙ sym (ne-eqb (suc n) 0 (λ e. omega arith))
 
-pub silent-is : (status : ℕ) {net : ℤ} (production hourly flex : ℕ) → SFits w64 net → leb 1 status || (eqb (ofZ w64 net) 0 && eqb production 0 && eqb hourly 0 && eqb flex 0) ≡ silentIsZero (flowsHere status net production hourly flex)
+pub silent-is :
+    (status : ℕ) {net : ℤ} (production hourly flex : ℕ)
+    → SFits w64 net
+    → leb 1 status || (eqb (ofZ w64 net) 0 && eqb production 0 && eqb hourly 0 && eqb flex 0) ≡ silentIsZero (flowsHere status net production hourly flex)
 unfolding silentIsZero
 silent-is status {net} production hourly flex f = rw (zero-bits net f)

@@ -6,7 +6,8 @@ use Prim.Native.Nat.{ℕ, _<_}
 use lib.Dec.{eqb}
 use lib.IntN.{ℤ}
 use lib.ListN.{length}
-use Rattle.residual.specs.Hour.{WithinLimits}
+use Rattle.residual.specs.Hour.{WithinLimits, flowsHere}
+use Rattle.rules.specs.Flows.{residual}
 use Rattle.rules.specs.Limits.{estimated, greatestFlow, mostHours}
 use Rattle.rules.specs.Refusals.{outOfRange, wrongLength, Verdict, accepted, unless, first, inTurn}
 use Rattle.rules.specs.Services.{atℤ, eachAt, eachAtℤ, hourCheck}
@@ -48,6 +49,11 @@ pub record Ranged (statuses : List ℕ) (nets : List ℤ) (productions hourlies 
 pub record Judged (statuses : List ℕ) (nets : List ℤ) (productions hourlies flexes : List ℕ) : Type 0 where
   pub ranged : Ranged statuses nets productions hourlies flexes
   pub hours : inTurn (length statuses) (hourCheck statuses nets productions hourlies flexes) ≡ accepted
+
+-- the residual of an hour of four series
+abbrev pub residualHere : List ℤ → List ℕ → List ℕ → List ℕ → ℕ → ℤ
+residualHere nets productions hourlies flexes t =
+    residual (flowsHere 0 (atℤ nets t) (at productions t) (at hourlies t) (at flexes t))
 
 -- an hour of four series whose flows are within their limits
 pub record WithinLimitsAt (nets : List ℤ) (productions hourlies flexes : List ℕ) (t : ℕ) : Type 0 where

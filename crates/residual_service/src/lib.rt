@@ -3,32 +3,26 @@
 ghost use mathlib.Core.Path.{_≡_};
 ghost use lib.ListN.{length};
 ghost use Rattle.answer.specs.Said.{said};
-ghost use Rattle.rules.specs.Flows.{residual, silentIsZero, verdictOf};
-ghost use Rattle.rules.specs.Limits.{estimated, greatestFlow};
+ghost use Rattle.rules.specs.Flows.{silentIsZero, verdictOf};
+ghost use Rattle.rules.specs.Limits.{estimated};
 ghost use Rattle.rules.specs.Refusals.{outOfRange, first, inTurn, afterwards};
-ghost use Rattle.rules.specs.Services.{atℤ, eachAt, eachAtℤ, silentCheck, hourCheck, residualChecks, residualFigures};
-ghost use Rattle.rules.specs.Words.{at, atMost, withinℤ};
+ghost use Rattle.rules.specs.Services.{eachAt, silentCheck, hourCheck, residualChecks, residualFigures};
+ghost use Rattle.rules.specs.Words.{atMost};
 ghost use Rattle.residual.specs.Hour.{judgement, flowsHere};
-ghost use Rattle.residual_service.specs.Passes.{WithinLimitsAt, residualShape, rangesOf, SameLengths, Ranged, Judged};
+ghost use Rattle.residual_service.specs.Passes.{residualHere, WithinLimitsAt, residualShape, rangesOf, SameLengths, Ranged, Judged};
 use answer::Answer;
 use answer::Refusal;
 use residual::Hour;
-use residual::MOST_HOURS;
 
-// "Each hour has a status: 0 missing, 1 measured, 2 estimated."
-const ESTIMATED: u8 = 2;
+// "Net supply -8,000,000,000..8,000,000,000"
+const GREATEST_NET_WH: i64 = limits::GREATEST_FLOW_WH as i64;
 
-// "Net supply -8,000,000,000..8,000,000,000; other flows 0..8,000,000,000."
-const GREATEST_FLOW: u64 = 8_000_000_000;
-
-const GREATEST_NET: i64 = 8_000_000_000;
-
-const LEAST_NET: i64 = -8_000_000_000;
+const LEAST_NET_WH: i64 = -GREATEST_NET_WH;
 
 // The residual of one hour of the four series of flows.
 fn residual_at(nets: &[i64], productions: &[u64], hourlies: &[u64], flexes: &[u64], t: usize) -> i64
     requires { ⌜ WithinLimitsAt (now nets) (now productions) (now hourlies) (now flexes) t ⌝ }
-    ensures { λ r. ⌜ r ≡ residual (flowsHere 0 (atℤ (now (nets .entry)) t) (at (now (productions .entry)) t) (at (now (hourlies .entry)) t) (at (now (flexes .entry)) t)) ⌝ }
+    ensures { λ r. ⌜ r ≡ residualHere (now (nets .entry)) (now (productions .entry)) (now (hourlies .entry)) (now (flexes .entry)) t ⌝ }
 {
     residual::residual_of(nets[t], productions[t], hourlies[t], flexes[t])
 }
@@ -45,13 +39,6 @@ fn answer_of(hour: Hour, place: usize) -> Answer
     }
 }
 
-// "Net supply -8,000,000,000..8,000,000,000"
-fn net_in_range(net: i64) -> bool
-    ensures { λ r. ⌜ r ≡ withinℤ greatestFlow net ⌝ }
-{
-    (LEAST_NET <= net) & (net <= GREATEST_NET)
-}
-
 // "With status 0 a figure other than 0 is refused with 4": a missing hour has no figure.
 fn silent_is_zero(status: u8, net: i64, production: u64, hourly: u64, flex: u64) -> bool
     ensures { λ r. ⌜ r ≡ silentIsZero (flowsHere status net production hourly flex) ⌝ }
@@ -65,21 +52,7 @@ fn statuses_in_range(statuses: &[u8]) -> Answer
 {
     let mut i = 0;
     while i < statuses.len() {
-        if ESTIMATED < statuses[i] {
-            return Answer::Refused(Refusal::OutOfRange, i);
-        }
-        i += 1;
-    }
-    Answer::Done
-}
-
-// Every net supply is within its limits.
-fn nets_in_range(nets: &[i64]) -> Answer
-    ensures { λ r. ⌜ said r ≡ eachAtℤ (now (nets .entry)) (withinℤ greatestFlow) outOfRange ⌝ }
-{
-    let mut i = 0;
-    while i < nets.len() {
-        if !net_in_range(nets[i]) {
+        if limits::ESTIMATED < statuses[i] {
             return Answer::Refused(Refusal::OutOfRange, i);
         }
         i += 1;
@@ -107,7 +80,7 @@ fn residual_shape(
         & (flexes == statuses)) {
         return Answer::Refused(Refusal::OutOfRange, 0);
     }
-    if !((1 <= statuses) & (statuses <= MOST_HOURS)) {
+    if !((1 <= statuses) & (statuses <= limits::MOST_HOURS)) {
         return Answer::Refused(Refusal::OutOfRange, 0);
     }
     Answer::Done
@@ -127,19 +100,27 @@ fn flows_in_range(
     let Answer::Done = by_status else {
         return by_status;
     };
-    let by_net = nets_in_range(nets);
+    let by_net = answer::each_within_i64(nets, LEAST_NET_WH, GREATEST_NET_WH, Refusal::OutOfRange);
     let Answer::Done = by_net else {
         return by_net;
     };
-    let by_production = answer::each_at_most_u64(productions, GREATEST_FLOW, Refusal::OutOfRange);
+    let by_production = answer::each_at_most_u64(
+        productions,
+        limits::GREATEST_FLOW_WH,
+        Refusal::OutOfRange,
+    );
     let Answer::Done = by_production else {
         return by_production;
     };
-    let by_hourly = answer::each_at_most_u64(hourlies, GREATEST_FLOW, Refusal::OutOfRange);
+    let by_hourly = answer::each_at_most_u64(
+        hourlies,
+        limits::GREATEST_FLOW_WH,
+        Refusal::OutOfRange,
+    );
     let Answer::Done = by_hourly else {
         return by_hourly;
     };
-    answer::each_at_most_u64(flexes, GREATEST_FLOW, Refusal::OutOfRange)
+    answer::each_at_most_u64(flexes, limits::GREATEST_FLOW_WH, Refusal::OutOfRange)
 }
 
 // The first missing hour that has a figure: 4 at that hour.
@@ -151,7 +132,8 @@ fn silent_hours(
     flexes: &[u64],
 ) -> Answer
     requires { ⌜ SameLengths (now statuses) (now nets) (now productions) (now hourlies) (now flexes) ⌝ }
-    ensures { λ r. ⌜ said r ≡ inTurn (length (now (statuses .entry))) (silentCheck (now (statuses .entry)) (now (nets .entry)) (now (productions .entry)) (now (hourlies .entry)) (now (flexes .entry))) ⌝ }
+    ensures { λ r. ⌜ said r ≡ inTurn (length (now (statuses .entry)))
+        (silentCheck (now (statuses .entry)) (now (nets .entry)) (now (productions .entry)) (now (hourlies .entry)) (now (flexes .entry))) ⌝ }
 {
     let mut t = 0;
     while t < statuses.len() {
@@ -172,7 +154,8 @@ fn judge_hours(
     flexes: &[u64],
 ) -> Answer
     requires { ⌜ Ranged (now statuses) (now nets) (now productions) (now hourlies) (now flexes) ⌝ }
-    ensures { λ r. ⌜ said r ≡ inTurn (length (now (statuses .entry))) (hourCheck (now (statuses .entry)) (now (nets .entry)) (now (productions .entry)) (now (hourlies .entry)) (now (flexes .entry))) ⌝ }
+    ensures { λ r. ⌜ said r ≡ inTurn (length (now (statuses .entry)))
+        (hourCheck (now (statuses .entry)) (now (nets .entry)) (now (productions .entry)) (now (hourlies .entry)) (now (flexes .entry))) ⌝ }
 {
     let mut t = 0;
     while t < statuses.len() {
@@ -217,8 +200,12 @@ pub fn residual(
     flexes: &[u64],
     out: &mut [u32],
 ) -> Answer
-    ensures answer { λ r. ⌜ said r ≡ first (residualChecks (now (statuses .entry)) (now (nets .entry)) (now (productions .entry)) (now (hourlies .entry)) (now (flexes .entry)) (length (now (out .entry)))) ⌝ }
-    ensures contents { λ r. ⌜ now (out .exit) ≡ afterwards (said r) (residualFigures (now (statuses .entry)) (now (nets .entry)) (now (productions .entry)) (now (hourlies .entry)) (now (flexes .entry))) (now (out .entry)) ⌝ }
+    ensures answer { λ r. ⌜ said r ≡ first
+        (residualChecks (now (statuses .entry)) (now (nets .entry)) (now (productions .entry)) (now (hourlies .entry)) (now (flexes .entry))
+        (length (now (out .entry)))) ⌝ }
+    ensures contents { λ r. ⌜ now (out .exit) ≡ afterwards (said r)
+        (residualFigures (now (statuses .entry)) (now (nets .entry)) (now (productions .entry)) (now (hourlies .entry)) (now (flexes .entry)))
+        (now (out .entry)) ⌝ }
 {
     let shape = residual_shape(
         statuses.len(),

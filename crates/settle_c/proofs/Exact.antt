@@ -1,18 +1,21 @@
 -- No service refuses past place 8,783, so an export's answer is number + 256 x place whatever it is given: every check of a list's values stands behind the
 -- check of the lists' lengths.
-use mathlib.Core.Bool.{Bool, true, false, cond, _&&_}
+use mathlib.Core.Bool.{Bool, true, false, _&&_}
 use mathlib.Core.List.{List, [], _∷_, _++_}
 use mathlib.Core.Path.{_≡_, refl, sym, ap}
 use Prim.Native.Nat.{ℕ, zero, suc, _+_, _*_, _≤_, _<_}
 use native.Mathlib.Omega.{arith}
-use borrow.Author.Tests.{leb-true, eqb-true}
-use lib.Dec.{leb, eqb}
+use borrow.Author.Tests.{eqb-true}
+use lib.Dec.{eqb}
 use lib.IntN.{ℤ}
 use lib.ListN.{length}
-use Rattle.rules.proofs.Refusals.{unless-exactly, refused-not-accepted}
+use Rattle.rules.proofs.Refusals.{unless-exactly}
+use Rattle.rules.proofs.Whole.{both-pass, within-is}
 use Rattle.rules.specs.Flows.{Judgement, figure, noFigure, judged, verdictOf}
-use Rattle.rules.specs.Refusals.{Refusal, Verdict, accepted, refused, unless, andThen, first, inTurn, numberOf, outOfRange, wrongLength}
-use Rattle.rules.specs.Services.{checkAt, eachAt, checkAtℤ, eachAtℤ, flowsOf, silentCheck, hourCheck, residualChecks, curveChecks, distributionChecks, periodisationChecks, reconciliationChecks}
+use Rattle.rules.specs.Limits.{mostHours, mostParties, mostWeights}
+use Rattle.rules.specs.Refusals.{Refusal, Verdict, accepted, refused, unless, andThen, first, inTurn, numberOf, outOfRange}
+use Rattle.rules.specs.Services.{checkAt, eachAt, checkAtℤ, eachAtℤ, flowsOf, silentCheck, hourCheck}
+use Rattle.rules.specs.Services.{residualChecks, curveChecks, distributionChecks, periodisationChecks, reconciliationChecks}
 use Rattle.rules.specs.Words.{figures, within}
 use Rattle.settle_c.specs.Coded.{coded}
 use Rattle.settle_c.proofs.Told.{within-place}
@@ -20,7 +23,7 @@ use Rattle.settle_c.proofs.Told.{within-place}
 -- a verdict that refuses, if at all, at one of the places of 8,784 hours
 abbrev pub Early : Verdict → Type 0
 Early accepted = Unit
-Early (refused r place) = place < 8784
+Early (refused r place) = place < mostWeights
 
 then-early : (v w : Verdict) → Early v → (v ≡ accepted → Early w) → Early (andThen v w)
 unfolding andThen
@@ -35,7 +38,7 @@ last-early : (v : Verdict) → Early v → Early (first (v ∷ []))
 unfolding first
 last-early v early = then-early v accepted early (λ _. tt)
 
-unless-early : (test : Bool) (r : Refusal) (place : ℕ) → place < 8784 → Early (unless test r place)
+unless-early : (test : Bool) (r : Refusal) (place : ℕ) → place < mostWeights → Early (unless test r place)
 unfolding unless
 unless-early true r place h = tt
 unless-early false r place h = h
@@ -46,47 +49,45 @@ one-more [] v early one = last-early v one
 one-more (accepted ∷ later) v early one = one-more later v early one
 one-more (refused r place ∷ later) v early one = early
 
-in-turn-early : (n : ℕ) (check : ℕ → Verdict) → n ≤ 8784 → ((i : ℕ) → i < 8784 → Early (check i)) → Early (inTurn n check)
+in-turn-early : (n : ℕ) (check : ℕ → Verdict) → n ≤ mostWeights → ((i : ℕ) → i < mostWeights → Early (check i)) → Early (inTurn n check)
 unfolding inTurn first figures
 in-turn-early zero check h each = tt
 in-turn-early (suc n) check h each = one-more (figures n check) (check n) (in-turn-early n check (omega (arith, h)) each) (each n (omega (arith, h)))
 
-each-early : (l : List ℕ) (test : ℕ → Bool) (r : Refusal) → length l ≤ 8784 → Early (eachAt l test r)
+each-early : (l : List ℕ) (test : ℕ → Bool) (r : Refusal) → length l ≤ mostWeights → Early (eachAt l test r)
 unfolding eachAt checkAt
 each-early l test r h = in-turn-early (length l) (checkAt l test r) h (λ i b. unless-early _ r i b)
 
-each-earlyℤ : (l : List ℤ) (test : ℤ → Bool) (r : Refusal) → length l ≤ 8784 → Early (eachAtℤ l test r)
+each-earlyℤ : (l : List ℤ) (test : ℤ → Bool) (r : Refusal) → length l ≤ mostWeights → Early (eachAtℤ l test r)
 unfolding eachAtℤ checkAtℤ
 each-earlyℤ l test r h = in-turn-early (length l) (checkAtℤ l test r) h (λ i b. unless-early _ r i b)
 
-both : (a b : Bool) → (a && b) ≡ true → (a ≡ true) × (b ≡ true)
-both true b h = (refl, h)
-both false b h = absurd (refused-not-accepted {r = wrongLength} {place = 0} (ap (λ (x : Bool). cond x accepted (refused wrongLength 0)) h))
-
-silent-early : (statuses : List ℕ) (nets : List ℤ) (productions hourlies flexes : List ℕ) (t : ℕ) → t < 8784 → Early (silentCheck statuses nets productions hourlies flexes t)
+silent-early :
+    (statuses : List ℕ) (nets : List ℤ) (productions hourlies flexes : List ℕ) (t : ℕ)
+    → t < mostWeights
+    → Early (silentCheck statuses nets productions hourlies flexes t)
 unfolding silentCheck
 silent-early statuses nets productions hourlies flexes t b = unless-early _ outOfRange t b
 
-judged-early : (j : Judgement) (t : ℕ) → t < 8784 → Early (verdictOf j t)
+judged-early : (j : Judgement) (t : ℕ) → t < mostWeights → Early (verdictOf j t)
 unfolding verdictOf
 judged-early (figure n) t b = tt
 judged-early (noFigure r) t b = b
 
-hour-early : (statuses : List ℕ) (nets : List ℤ) (productions hourlies flexes : List ℕ) (t : ℕ) → t < 8784 → Early (hourCheck statuses nets productions hourlies flexes t)
+hour-early : (statuses : List ℕ) (nets : List ℤ) (productions hourlies flexes : List ℕ) (t : ℕ) → t < mostWeights → Early (hourCheck statuses nets productions hourlies flexes t)
 unfolding hourCheck
 hour-early statuses nets productions hourlies flexes t b = judged-early (judged (flowsOf statuses nets productions hourlies flexes t)) t b
 
 -- how many values a list has, once the check of their number has passed
 few : (low high n : ℕ) (r : Refusal) → unless (within low high n) r 0 ≡ accepted → n ≤ high
-unfolding within
-few low high n r e = leb-true n high (both (leb low n) (leb n high) (unless-exactly (leb low n && leb n high) r 0 .0 e) .1)
+few low high n r e = within-is low high n (unless-exactly (within low high n) r 0 .0 e) .1
 
 pub curve-early : (residuals : List ℕ) (w lent : ℕ) → Early (first (curveChecks residuals w lent))
 unfolding curveChecks
 curve-early residuals w lent =
     first-early _ _ (unless-early _ _ 0 (omega arith)) (λ _.
     first-early _ _ (unless-early _ _ 0 (omega arith)) (λ hours.
-    let h : length residuals ≤ 8784 = omega (arith, few 1 745 (length residuals) _ hours) in
+    let h : length residuals ≤ mostWeights = omega (arith, few 1 mostHours (length residuals) _ hours) in
     first-early _ _ (unless-early _ _ 0 (omega arith)) (λ _.
     first-early _ _ (each-early residuals _ _ h) (λ _.
     last-early _ (each-early residuals _ _ h)))))
@@ -96,22 +97,24 @@ unfolding periodisationChecks
 periodisation-early e weights lent =
     first-early _ _ (unless-early _ _ 0 (omega arith)) (λ _.
     first-early _ _ (unless-early _ _ 0 (omega arith)) (λ hours.
-    let h : length weights ≤ 8784 = few 1 8784 (length weights) _ hours in
+    let h : length weights ≤ mostWeights = few 1 mostWeights (length weights) _ hours in
     first-early _ _ (unless-early _ _ 0 (omega arith)) (λ _.
     first-early _ _ (each-early weights _ _ h) (λ _.
     last-early _ (unless-early _ _ 0 (omega arith))))))
 
-pub residual-early : (statuses : List ℕ) (nets : List ℤ) (productions hourlies flexes : List ℕ) (lent : ℕ) → Early (first (residualChecks statuses nets productions hourlies flexes lent))
+pub residual-early :
+    (statuses : List ℕ) (nets : List ℤ) (productions hourlies flexes : List ℕ) (lent : ℕ)
+    → Early (first (residualChecks statuses nets productions hourlies flexes lent))
 unfolding residualChecks
 residual-early statuses nets productions hourlies flexes lent =
     let n = length statuses in
     first-early _ _ (unless-early _ _ 0 (omega arith)) (λ _.
     first-early _ _ (unless-early _ _ 0 (omega arith)) (λ equal.
     first-early _ _ (unless-early _ _ 0 (omega arith)) (λ shape.
-    let hours : length statuses ≤ 745 = few 1 745 (length statuses) _ shape in
-    let all = both (eqb (length nets) n && eqb (length productions) n && eqb (length hourlies) n) (eqb (length flexes) n) (unless-exactly _ outOfRange 0 .0 equal) in
-    let three = both (eqb (length nets) n && eqb (length productions) n) (eqb (length hourlies) n) (all .0) in
-    let two = both (eqb (length nets) n) (eqb (length productions) n) (three .0) in
+    let hours : length statuses ≤ mostHours = few 1 mostHours (length statuses) _ shape in
+    let all = both-pass (eqb (length nets) n && eqb (length productions) n && eqb (length hourlies) n) (eqb (length flexes) n) (unless-exactly _ outOfRange 0 .0 equal) in
+    let three = both-pass (eqb (length nets) n && eqb (length productions) n) (eqb (length hourlies) n) (all .0) in
+    let two = both-pass (eqb (length nets) n) (eqb (length productions) n) (three .0) in
     let as-nets : length nets ≡ length statuses = eqb-true (length nets) n (two .0) in
     let as-productions : length productions ≡ length statuses = eqb-true (length productions) n (two .1) in
     let as-hourlies : length hourlies ≡ length statuses = eqb-true (length hourlies) n (three .1) in
@@ -129,20 +132,22 @@ unfolding distributionChecks within
 distribution-early shares residuals lent =
     first-early _ _ (unless-early _ _ 0 (omega arith)) (λ _.
     first-early _ _ (unless-early _ _ 0 (omega arith)) (λ shape.
-    let sizes : ((leb 1 (length residuals) && leb (length residuals) 745) ≡ true) × ((leb 1 (length shares) && leb (length shares) 64) ≡ true) = both (leb 1 (length residuals) && leb (length residuals) 745) (leb 1 (length shares) && leb (length shares) 64) (unless-exactly _ outOfRange 0 .0 shape) in
-    let hours : length residuals ≤ 745 = leb-true (length residuals) 745 (both (leb 1 (length residuals)) (leb (length residuals) 745) (sizes .0) .1) in
-    let parties : length shares ≤ 64 = leb-true (length shares) 64 (both (leb 1 (length shares)) (leb (length shares) 64) (sizes .1) .1) in
+    let sizes = both-pass (within 1 mostHours (length residuals)) (within 1 mostParties (length shares)) (unless-exactly _ outOfRange 0 .0 shape) in
+    let hours : length residuals ≤ mostHours = within-is 1 mostHours (length residuals) (sizes .0) .1 in
+    let parties : length shares ≤ mostParties = within-is 1 mostParties (length shares) (sizes .1) .1 in
     first-early _ _ (each-early shares _ _ (omega (arith, parties))) (λ _.
     first-early _ _ (unless-early _ _ 0 (omega arith)) (λ _.
     last-early _ (each-early residuals _ _ (omega (arith, hours)))))))
 
-pub reconciliation-early : (residual : ℕ) (distributed : List ℤ) (periodised : List ℕ) (carrier : ℕ) (price : ℤ) (lentDifferences lentAmounts : ℕ) → Early (first (reconciliationChecks residual distributed periodised carrier price lentDifferences lentAmounts))
+pub reconciliation-early :
+    (residual : ℕ) (distributed : List ℤ) (periodised : List ℕ) (carrier : ℕ) (price : ℤ) (lentDifferences lentAmounts : ℕ)
+    → Early (first (reconciliationChecks residual distributed periodised carrier price lentDifferences lentAmounts))
 unfolding reconciliationChecks
 reconciliation-early residual distributed periodised carrier price lentDifferences lentAmounts =
     first-early _ _ (unless-early _ _ 0 (omega arith)) (λ _.
     first-early _ _ (unless-early _ _ 0 (omega arith)) (λ equal.
     first-early _ _ (unless-early _ _ 0 (omega arith)) (λ shape.
-    let parties : length distributed ≤ 64 = few 1 64 (length distributed) _ shape in
+    let parties : length distributed ≤ mostParties = few 1 mostParties (length distributed) _ shape in
     let same : length periodised ≡ length distributed = eqb-true (length periodised) (length distributed) (unless-exactly _ _ 0 .0 equal) in
     first-early _ _ (unless-early _ _ 0 (omega arith)) (λ _.
     first-early _ _ (each-earlyℤ distributed _ _ (omega (arith, parties))) (λ _.
@@ -152,6 +157,6 @@ reconciliation-early residual distributed periodised carrier price lentDifferenc
     last-early _ (unless-early _ _ 0 (omega arith))))))))))
 
 -- number + 256 x place, exactly
-pub exact : (r : Refusal) (place : ℕ) → place < 8784 → coded (refused r place) ≡ numberOf r + 256 * place
+pub exact : (r : Refusal) (place : ℕ) → place < mostWeights → coded (refused r place) ≡ numberOf r + 256 * place
 unfolding coded
 exact r place h = sym (within-place (numberOf r) place (omega (arith, h)))

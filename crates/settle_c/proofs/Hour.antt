@@ -27,7 +27,10 @@ unfolding answer kept
 or-kept old new R.accepted = refl
 or-kept old new (R.refused r place) = refl
 
-module _ {residual : ℕ} {distributed : List ℤ} {periodised : List ℕ} {carrier : ℕ} {price : ℤ} {differences amounts : List ℤ} {r : Reconciled} {d a : List ℤ} (p : Promised residual distributed periodised carrier price differences amounts r d a) where
+module _
+    {residual : ℕ} {distributed : List ℤ} {periodised : List ℕ} {carrier : ℕ} {price : ℤ} {differences amounts : List ℤ}
+    {r : Reconciled} {d a : List ℤ}
+    (p : Promised residual distributed periodised carrier price differences amounts r d a) where
   abbrev checked : Verdict
   checked = first (reconciliationChecks residual distributed periodised carrier price (length differences) (length amounts))
 
@@ -50,5 +53,7 @@ module _ {residual : ℕ} {distributed : List ℤ} {periodised : List ℕ} {carr
   pub code-refused : {x : Refusal} {place n : ℕ} → r ≡ Refused x place → n ≡ coded (said (A.Refused x place)) → n ≡ coded checked
   code-refused is by = coded-by by (sym (ap verdict is) ∙ p .answers)
 
-  pub lists-left : (d ≡ afterwards checked (reconciliationDifferences residual distributed periodised carrier) differences) × (a ≡ afterwards checked (reconciliationAmounts (reconciliationDifferences residual distributed periodised carrier) price) amounts)
+  pub lists-left :
+      (d ≡ afterwards checked (reconciliationDifferences residual distributed periodised carrier) differences)
+      × (a ≡ afterwards checked (reconciliationAmounts (reconciliationDifferences residual distributed periodised carrier) price) amounts)
   lists-left = (left-by _ _ (p .holds-differences) (p .answers), left-by _ _ (p .holds-amounts) (p .answers))

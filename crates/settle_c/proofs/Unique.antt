@@ -3,7 +3,8 @@
 use mathlib.Core.Path.{_≡_, sym, _∙_}
 use Prim.Native.Nat.{ℕ, _+_, _*_, _≤_, _<_, _%_, _/_}
 use native.Mathlib.Omega.{arith}
-use Rattle.rules.specs.Refusals.{Refusal, refused, numberOf, fileFault, unknownKind, outOfOrder, outOfRange, glnFault, wOutOfRange, missingHour, residualNegative, residualTooLarge, curveTooLarge, spanFault, energyTooLarge, nothingToFollow, periodisedTooLarge, wrongCount, wrongLength}
+use Rattle.rules.specs.Refusals.{Refusal, refused, numberOf, fileFault, unknownKind, outOfOrder, outOfRange, glnFault, wOutOfRange}
+use Rattle.rules.specs.Refusals.{missingHour, residualNegative, residualTooLarge, curveTooLarge, spanFault, energyTooLarge, nothingToFollow, periodisedTooLarge, wrongCount, wrongLength}
 use Rattle.settle_c.specs.Coded.{greatestPlace, numberAt, coded}
 use Rattle.settle_c.proofs.Told.{within-place}
 

@@ -7,7 +7,9 @@ ghost use lib.ListN.{length};
 ghost use Rattle.answer.specs.Said.{said};
 ghost use Rattle.rules.specs.Reconciliation.{invoiceOre};
 ghost use Rattle.rules.specs.Refusals.{first, afterwards};
-ghost use Rattle.rules.specs.Services.{residualChecks, residualFigures, curveChecks, curveFigures, distributionChecks, distributionFigures, periodisationChecks, periodisationFigures, reconciliationChecks, reconciliationLoss, reconciliationDifferences, reconciliationAmounts};
+ghost use Rattle.rules.specs.Services.{residualChecks, residualFigures, curveChecks, curveFigures};
+ghost use Rattle.rules.specs.Services.{distributionChecks, distributionFigures, periodisationChecks, periodisationFigures};
+ghost use Rattle.rules.specs.Services.{reconciliationChecks, reconciliationLoss, reconciliationDifferences, reconciliationAmounts};
 ghost use Rattle.settle_c.specs.Coded.{numberAt, coded, kept};
 
 // Up to this place, 2 ^ 56 - 1, number + 256 x place is within 64 bits. Every service refuses far below it.
@@ -46,8 +48,16 @@ pub extern "C" fn settle_residual(
     flexes: &[u64],
     out: &mut [u32],
 ) -> u64
-    ensures answer { λ r. ⌜ r ≡ coded (first (residualChecks (now (statuses .entry)) (now (nets .entry)) (now (productions .entry)) (now (hourlies .entry)) (now (flexes .entry)) (length (now (out .entry))))) ⌝ }
-    ensures contents { λ _. ⌜ now (out .exit) ≡ afterwards (first (residualChecks (now (statuses .entry)) (now (nets .entry)) (now (productions .entry)) (now (hourlies .entry)) (now (flexes .entry)) (length (now (out .entry))))) (residualFigures (now (statuses .entry)) (now (nets .entry)) (now (productions .entry)) (now (hourlies .entry)) (now (flexes .entry))) (now (out .entry)) ⌝ }
+    ensures answer { λ r. ⌜ r ≡ coded
+        (first
+        (residualChecks (now (statuses .entry)) (now (nets .entry)) (now (productions .entry)) (now (hourlies .entry)) (now (flexes .entry))
+        (length (now (out .entry))))) ⌝ }
+    ensures contents { λ _. ⌜ now (out .exit) ≡ afterwards
+        (first
+        (residualChecks (now (statuses .entry)) (now (nets .entry)) (now (productions .entry)) (now (hourlies .entry)) (now (flexes .entry))
+        (length (now (out .entry)))))
+        (residualFigures (now (statuses .entry)) (now (nets .entry)) (now (productions .entry)) (now (hourlies .entry)) (now (flexes .entry)))
+        (now (out .entry)) ⌝ }
 {
     let answered = residual_service::residual(statuses, nets, productions, hourlies, flexes, out);
     code(answered)
@@ -57,7 +67,10 @@ pub extern "C" fn settle_residual(
 #[no_mangle]
 pub extern "C" fn settle_curve(residuals: &[u32], w: u64, out: &mut [u32]) -> u64
     ensures answer { λ r. ⌜ r ≡ coded (first (curveChecks (now (residuals .entry)) w (length (now (out .entry))))) ⌝ }
-    ensures contents { λ _. ⌜ now (out .exit) ≡ afterwards (first (curveChecks (now (residuals .entry)) w (length (now (out .entry))))) (curveFigures (now (residuals .entry)) w) (now (out .entry)) ⌝ }
+    ensures contents { λ _. ⌜ now (out .exit) ≡ afterwards
+        (first (curveChecks (now (residuals .entry)) w (length (now (out .entry)))))
+        (curveFigures (now (residuals .entry)) w)
+        (now (out .entry)) ⌝ }
 {
     let answered = residual::curve(residuals, w, out);
     code(answered)
@@ -67,7 +80,10 @@ pub extern "C" fn settle_curve(residuals: &[u32], w: u64, out: &mut [u32]) -> u6
 #[no_mangle]
 pub extern "C" fn settle_distribution(shares: &[u64], residuals: &[u32], out: &mut [i64]) -> u64
     ensures answer { λ r. ⌜ r ≡ coded (first (distributionChecks (now (shares .entry)) (now (residuals .entry)) (length (now (out .entry))))) ⌝ }
-    ensures contents { λ _. ⌜ now (out .exit) ≡ afterwards (first (distributionChecks (now (shares .entry)) (now (residuals .entry)) (length (now (out .entry))))) (distributionFigures (now (shares .entry)) (now (residuals .entry))) (now (out .entry)) ⌝ }
+    ensures contents { λ _. ⌜ now (out .exit) ≡ afterwards
+        (first (distributionChecks (now (shares .entry)) (now (residuals .entry)) (length (now (out .entry)))))
+        (distributionFigures (now (shares .entry)) (now (residuals .entry)))
+        (now (out .entry)) ⌝ }
 {
     let answered = distribute_service::distribution(shares, residuals, out);
     code(answered)
@@ -77,7 +93,10 @@ pub extern "C" fn settle_distribution(shares: &[u64], residuals: &[u32], out: &m
 #[no_mangle]
 pub extern "C" fn settle_periodisation(e: u64, weights: &[u32], out: &mut [u32]) -> u64
     ensures answer { λ r. ⌜ r ≡ coded (first (periodisationChecks e (now (weights .entry)) (length (now (out .entry))))) ⌝ }
-    ensures contents { λ _. ⌜ now (out .exit) ≡ afterwards (first (periodisationChecks e (now (weights .entry)) (length (now (out .entry))))) (periodisationFigures e (now (weights .entry))) (now (out .entry)) ⌝ }
+    ensures contents { λ _. ⌜ now (out .exit) ≡ afterwards
+        (first (periodisationChecks e (now (weights .entry)) (length (now (out .entry)))))
+        (periodisationFigures e (now (weights .entry)))
+        (now (out .entry)) ⌝ }
 {
     let answered = periodise::periodisation(e, weights, out);
     code(answered)
@@ -95,10 +114,30 @@ pub extern "C" fn settle_reconciliation(
     amounts_millionths: &mut [i64],
     loss_wh: &mut i64,
 ) -> u64
-    ensures answer { λ r. ⌜ r ≡ coded (first (reconciliationChecks «residual_wh» (now («distributed_wh» .entry)) (now («periodised_wh» .entry)) carrier «price_ore» (length (now («differences_wh» .entry))) (length (now («amounts_millionths» .entry))))) ⌝ }
-    ensures loss { λ _. ⌜ now («loss_wh» .exit) ≡ kept (first (reconciliationChecks «residual_wh» (now («distributed_wh» .entry)) (now («periodised_wh» .entry)) carrier «price_ore» (length (now («differences_wh» .entry))) (length (now («amounts_millionths» .entry))))) (reconciliationLoss «residual_wh» (now («periodised_wh» .entry))) (now («loss_wh» .entry)) ⌝ }
-    ensures differences { λ _. ⌜ now («differences_wh» .exit) ≡ afterwards (first (reconciliationChecks «residual_wh» (now («distributed_wh» .entry)) (now («periodised_wh» .entry)) carrier «price_ore» (length (now («differences_wh» .entry))) (length (now («amounts_millionths» .entry))))) (reconciliationDifferences «residual_wh» (now («distributed_wh» .entry)) (now («periodised_wh» .entry)) carrier) (now («differences_wh» .entry)) ⌝ }
-    ensures amounts { λ _. ⌜ now («amounts_millionths» .exit) ≡ afterwards (first (reconciliationChecks «residual_wh» (now («distributed_wh» .entry)) (now («periodised_wh» .entry)) carrier «price_ore» (length (now («differences_wh» .entry))) (length (now («amounts_millionths» .entry))))) (reconciliationAmounts (reconciliationDifferences «residual_wh» (now («distributed_wh» .entry)) (now («periodised_wh» .entry)) carrier) «price_ore») (now («amounts_millionths» .entry)) ⌝ }
+    ensures answer { λ r. ⌜ r ≡ coded
+        (first
+        (reconciliationChecks «residual_wh» (now («distributed_wh» .entry)) (now («periodised_wh» .entry)) carrier «price_ore»
+        (length (now («differences_wh» .entry))) (length (now («amounts_millionths» .entry))))) ⌝ }
+    ensures loss { λ _. ⌜ now («loss_wh» .exit) ≡ kept
+        (first
+        (reconciliationChecks «residual_wh» (now («distributed_wh» .entry)) (now («periodised_wh» .entry)) carrier «price_ore»
+        (length (now («differences_wh» .entry))) (length (now («amounts_millionths» .entry)))))
+        (reconciliationLoss «residual_wh» (now («periodised_wh» .entry)))
+        (now («loss_wh» .entry)) ⌝ }
+    ensures differences { λ _. ⌜ now («differences_wh» .exit) ≡ afterwards
+        (first
+        (reconciliationChecks «residual_wh» (now («distributed_wh» .entry)) (now («periodised_wh» .entry)) carrier «price_ore»
+        (length (now («differences_wh» .entry))) (length (now («amounts_millionths» .entry)))))
+        (reconciliationDifferences «residual_wh» (now («distributed_wh» .entry)) (now («periodised_wh» .entry)) carrier)
+        (now («differences_wh» .entry)) ⌝ }
+    ensures amounts { λ _. ⌜ now («amounts_millionths» .exit) ≡ afterwards
+        (first
+        (reconciliationChecks «residual_wh» (now («distributed_wh» .entry)) (now («periodised_wh» .entry)) carrier «price_ore»
+        (length (now («differences_wh» .entry))) (length (now («amounts_millionths» .entry)))))
+        (reconciliationAmounts
+        (reconciliationDifferences «residual_wh» (now («distributed_wh» .entry)) (now («periodised_wh» .entry)) carrier)
+        «price_ore»)
+        (now («amounts_millionths» .entry)) ⌝ }
 {
     let answered = reconcile_service::reconciliation(
         residual_wh,

@@ -55,9 +55,11 @@ loop-less c = search needs
 loop-again : tie.Need-loop-again Inv-loop μ-loop
 unfolding at
 loop-again c =
+    let cut = c .before .before .before .before in
+    let above = cut .before in
     upto-next (c .before .before .before .loop .inv) (omega arith) (omega arith)
     (c .comes-before .ensures
-    ∙ gets (c .before .before .before .before .before .before .threshold .ensures) (c .before .before .before .before .before .above .ensures) (c .before .before .before .before .cut .ensures) (omega arith))
+    ∙ gets (above .before .threshold .ensures) (above .above .ensures) (cut .cut .ensures) (omega arith))
 
 returns : tie.Need-returns Inv-loop μ-loop
 returns c = upto-end (c .before .loop .inv) (omega arith)

@@ -28,13 +28,20 @@ shared-slice-read-step : tie.Need-shared-slice-read-step Inv-loop μ-loop
 shared-slice-read-step c = search needs
 
 step-requires : tie.Need-step-requires Inv-loop μ-loop
-step-requires c κs = H.ready _ _ _ (c .before .before .before .before .before .before .pre) (c .before .before .loop .inv) (omega arith)
+step-requires c κs =
+    let turn = c .before .before in
+    H.ready _ _ _ (turn .before .before .before .before .pre) (turn .loop .inv) (omega arith)
 
-put-hour-requires : tie.Need-put-hour-requires Inv-loop μ-loop
-put-hour-requires c κs = ((c .before .before .before .before .before .before .before .before .before .before .pre .startable .few), H.place-fits _ _ _ (c .before .before .before .before .before .before .before .before .before .before .pre) (c .before .before .before .before .before .before .loop .inv) (omega arith))
+put-figures-requires : tie.Need-put-figures-requires Inv-loop μ-loop
+put-figures-requires c κs =
+    let turn = c .before .before .before .before .before .before in
+    let asked = turn .before .before .before .before .pre in
+    (asked .startable .few, H.place-fits _ _ _ asked (turn .loop .inv) (omega arith))
 
 add-place : tie.Need-add-place Inv-loop μ-loop
-add-place c = omega (arith, H.place-small _ _ _ (c .before .before .before .before .before .before .before .before .before .before .before .before .pre) (c .before .before .before .before .before .before .before .before .loop .inv) (omega arith))
+add-place c =
+    let turn = c .before .before .before .before .before .before .before .before in
+    omega (arith, H.place-small _ _ _ (turn .before .before .before .before .pre) (turn .loop .inv) (omega arith))
 
 add-t : tie.Need-add-t Inv-loop μ-loop
 add-t c = search needs
@@ -43,7 +50,10 @@ loop-less : tie.Need-loop-less Inv-loop μ-loop
 loop-less c = search needs
 
 loop-again : tie.Need-loop-again Inv-loop μ-loop
-loop-again c = H.hours-next _ _ _ (c .before .before .before .before .before .before .before .before .before .before .before .before .pre) (c .before .before .before .before .before .before .before .before .loop .inv) (omega arith) (c .before .before .before .before .before .step .ensures) (c .before .put-hour .ensures)
+loop-again c =
+    let turn = c .before .before .before .before .before .before .before .before in
+    H.hours-next _ _ _ (turn .before .before .before .before .pre) (turn .loop .inv) (omega arith)
+    (c .before .before .before .before .before .step .ensures) (c .before .put-figures .ensures .fills)
 
 same-length : tie.Need-same-length Inv-loop μ-loop
 same-length c = (c .before .loop .inv .filling .size) ∙ sym (c .before .before .before .before .before .pre .size)
@@ -62,7 +72,7 @@ distribute-spec =
     mul-step
     shared-slice-read-step
     step-requires
-    put-hour-requires
+    put-figures-requires
     add-place
     add-t
     loop-less

@@ -1,8 +1,9 @@
--- `distribute_service::shape` meets its contract, exit by exit. Assumes nothing.
-use Rattle.distribute_service.proofs.Lengths as S
+-- `distribute_service::shape` meets its contract: its tests are the checks, in their order. Assumes nothing.
+use mathlib.Core.Path.{sym, _∙_}
 use borrow.Author.Needs.{needs}
-use borrow.Author.Tests.{not-true, not-false}
-use borrow.Author.Needs.{needs}
+use Rattle.answer.proofs.Checks.{flag-off, flag-on, test-refuses, test-passes, none-left}
+use Rattle.distribute_service.specs.Service.{shapeVerdict}
+use Rattle.rules.specs.Words.{within}
 use Rattle.distribute_service.proofs.shape.Statement.{statement}
 use Rattle.distribute_service.proofs.shape.Tie as tie
 
@@ -10,24 +11,20 @@ lent-right-requires : tie.Need-lent-right-requires
 lent-right-requires c κs = search needs
 
 returns : tie.Need-returns
-returns c = S.shape-lent (c .before .before .args .lent) (c .before .before .args .parties) (c .before .before .args .hours) _ (c .before .lent-right .ensures) (not-true _ (c .if1 .taken))
+unfolding shapeVerdict
+returns c = test-refuses _ (sym (c .before .lent-right .ensures) ∙ flag-off _ (c .if1 .taken))
 
 returns-2 : tie.Need-returns-2
-returns-2 c = S.shape-few-hours (c .before .before .before .args .lent) (c .before .before .before .args .parties) (c .before .before .before .args .hours) _ (c .before .before .lent-right .ensures) (not-false _ (c .before .if1 .left)) (c .if2 .taken)
+unfolding shapeVerdict within
+returns-2 c =
+    test-passes _ _ _ (sym (c .before .before .lent-right .ensures) ∙ flag-on _ (c .before .if1 .left))
+    (test-refuses _ (flag-off _ (c .if2 .taken)))
 
 returns-3 : tie.Need-returns-3
-returns-3 c = S.shape-many-hours (c .before .before .before .before .args .lent) (c .before .before .before .before .args .parties) (c .before .before .before .before .args .hours) _ (c .before .before .before .lent-right .ensures) (not-false _ (c .before .before .if1 .left)) (c .before .if2 .left) (c .if3 .taken)
-
-returns-4 : tie.Need-returns-4
-returns-4 c = S.shape-few-parties (c .before .before .before .before .before .args .lent) (c .before .before .before .before .before .args .parties) (c .before .before .before .before .before .args .hours) _ (c .before .before .before .before .lent-right .ensures) (not-false _ (c .before .before .before .if1 .left)) (c .before .before .if2 .left) (c .before .if3 .left) (c .if4 .taken)
-
-returns-5 : tie.Need-returns-5
-returns-5 c = S.shape-many-parties (c .before .before .before .before .before .before .args .lent) (c .before .before .before .before .before .before .args .parties) (c .before .before .before .before .before .before .args .hours) _ (c .before .before .before .before .before .lent-right .ensures) (not-false _ (c .before .before .before .before .if1 .left)) (c .before .before .before .if2 .left) (c .before .before .if3 .left) (c .before .if4 .left) (c .if5 .taken)
-
-returns-6 : tie.Need-returns-6
-returns-6 c = S.shape-right (c .before .before .before .before .before .before .args .lent) (c .before .before .before .before .before .before .args .parties) (c .before .before .before .before .before .before .args .hours) _ (c .before .before .before .before .before .lent-right .ensures) (not-false _ (c .before .before .before .before .if1 .left)) (c .before .before .before .if2 .left) (c .before .before .if3 .left) (c .before .if4 .left) (c .if5 .left)
+unfolding shapeVerdict within
+returns-3 c =
+    test-passes _ _ _ (sym (c .before .before .lent-right .ensures) ∙ flag-on _ (c .before .if1 .left))
+    (test-passes _ _ _ (flag-on _ (c .if2 .left)) none-left)
 
 pub shape-spec : {M : Type 1} → statement M
-shape-spec =
-    tie.close
-    (tie.spec lent-right-requires returns returns-2 returns-3 returns-4 returns-5 returns-6)
+shape-spec = tie.close (tie.spec lent-right-requires returns returns-2 returns-3)

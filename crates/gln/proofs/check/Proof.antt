@@ -3,6 +3,7 @@ use Prim.Native.Nat.{_-_}
 use native.Mathlib.Omega.{arith}
 use borrow.Author.Needs.{needs}
 use Rattle.gln.proofs.Walk.{Walking, walk-start, walk-next, number-fits, weighs-at-most, other-length, stop-below, stop-above, end-other, end-valid}
+use Rattle.rules.specs.Limits.{glnDigits}
 use Rattle.gln.proofs.check.Statement.{statement}
 use Rattle.gln.proofs.check.Tie as tie
 
@@ -10,7 +11,7 @@ abbrev Inv-loop : tie.InvT-loop
 Inv-loop part number₀ weighted₀ i₀ number weighted i = Walking part number weighted i
 
 abbrev μ-loop : tie.MeasureT-loop
-μ-loop part number₀ weighted₀ i₀ number weighted i = 13 - i
+μ-loop part number₀ weighted₀ i₀ number weighted i = glnDigits - i
 
 returns : tie.Need-returns Inv-loop μ-loop
 returns c = other-length _ (c .if1 .taken)

@@ -4,7 +4,7 @@ use Prim.Native.Nat.{_-_}
 use mathlib.Core.Path.{_≡_, sym}
 use lib.ListN.{length}
 use Rattle.month_series.proofs.OneReading.{followsIn, ends-stand, end-not-less, follows-is}
-use Rattle.residual.proofs.Places.{passes, stops}
+use Rattle.answer.proofs.Checks.{passes, stops}
 use Rattle.rules.specs.Month.{monthOf, readingVerdict}
 use Rattle.rules.proofs.Loops.{Looking, look-start, look-pass, look-stop, look-end}
 use borrow.Author.Needs.{needs}

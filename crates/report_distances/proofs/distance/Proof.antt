@@ -2,7 +2,7 @@
 use Prim.Native.Nat.{_*_}
 use native.Mathlib.Omega.{arith}
 use borrow.Author.Needs.{needs}
-use Rattle.apportion.proofs.Totals.{machine-minus-fits, machine-minus-is}
+use Rattle.distribute.proofs.Totals.{machine-minus-fits, machine-minus-is}
 use Rattle.report_distances.proofs.Bounds.{at-most-w}
 use Rattle.report_distances.proofs.distance.Statement.{statement}
 use Rattle.report_distances.proofs.distance.Tie as tie

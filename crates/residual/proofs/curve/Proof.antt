@@ -1,7 +1,7 @@
 -- `residual::curve` meets its contract: its passes are the checks, in their order, and it writes only after the last of them. Assumes nothing.
 use mathlib.Core.Path.{_∙_}
 use Rattle.rules.specs.Refusals.{afterwards}
-use Rattle.residual.proofs.Checks.{pass-refuses, pass-accepts, none-left, accepted-by, unwritten}
+use Rattle.answer.proofs.Checks.{pass-refuses, pass-accepts, none-left, accepted-by, unwritten}
 use Rattle.residual.proofs.CurveNumbers.{in-parts, shape-lent, shape-w}
 use borrow.Author.Needs.{needs}
 use Rattle.residual.proofs.curve.Statement.{statement}
@@ -68,8 +68,13 @@ write-curve-requires : tie.Need-write-curve-requires
 write-curve-requires c κs =
     let c3 = c .before in
     let c2 = c3 .before .before .before in
-    let c1 = c2 .before .before .before in
-    (record { some = shape-w _ _ _ (accepted-by (c1 .before .before .curve-shape .ensures) (c1 .enum-told .given .1)); fitting = (accepted-by (c3 .before .before .curve-numbers-fit .ensures) (c3 .enum-told5 .given .1)) }, shape-lent _ _ _ (accepted-by (c1 .before .before .curve-shape .ensures) (c1 .enum-told .given .1)))
+    let c1 = c2 .before .before .before in (
+      record {
+        some = shape-w _ _ _ (accepted-by (c1 .before .before .curve-shape .ensures) (c1 .enum-told .given .1));
+        fitting = (accepted-by (c3 .before .before .curve-numbers-fit .ensures) (c3 .enum-told5 .given .1));
+      },
+      shape-lent _ _ _ (accepted-by (c1 .before .before .curve-shape .ensures) (c1 .enum-told .given .1)),
+    )
 
 same-length : tie.Need-same-length
 same-length c = search needs

@@ -41,7 +41,12 @@ enum-told-2 : tie.Need-enum-told-2 Inv-loop μ-loop
 enum-told-2 c = search needs
 
 -- what is said of the hour is its check
-said-here : (c : tie.After-answer-of Inv-loop μ-loop) → said (c .answer-of .result) ≡ hourCheck (c .before .before .before .before .before .before .before .before .before .before .args .statuses .now) (c .before .before .before .before .before .before .before .before .before .before .args .nets .now) (c .before .before .before .before .before .before .before .before .before .before .args .productions .now) (c .before .before .before .before .before .before .before .before .before .before .args .hourlies .now) (c .before .before .before .before .before .before .before .before .before .before .args .flexes .now) (c .before .before .before .before .before .loop .t)
+said-here :
+    (c : tie.After-answer-of Inv-loop μ-loop)
+    → let turn = c .before .before .before .before .before in
+    let a = turn .before .before .before .before .before .args in
+    said (c .answer-of .result)
+    ≡ hourCheck (a .statuses .now) (a .nets .now) (a .productions .now) (a .hourlies .now) (a .flexes .now) (turn .loop .t)
 unfolding at
 said-here c =
     hour-said _ _ _ _ _ _ (c .before .judge .result) (c .answer-of .result) (c .before .before .before .residual-at .ensures)
@@ -52,7 +57,9 @@ said-here c =
 returns : tie.Need-returns Inv-loop μ-loop
 returns c =
     ap said (c .enum-told2 .given .1)
-    ∙ sym (look-stop (c .before .before .before .before .before .before .before .loop .inv) (omega arith) (sym (said-here (c .before .before)) ∙ ap said (c .enum-told2 .given .1)))
+    ∙ sym
+    (look-stop (c .before .before .before .before .before .before .before .loop .inv) (omega arith)
+    (sym (said-here (c .before .before)) ∙ ap said (c .enum-told2 .given .1)))
 
 add-t : tie.Need-add-t Inv-loop μ-loop
 add-t c = search needs
@@ -61,7 +68,9 @@ loop-less : tie.Need-loop-less Inv-loop μ-loop
 loop-less c = search needs
 
 loop-again : tie.Need-loop-again Inv-loop μ-loop
-loop-again c = look-pass (c .before .before .before .before .before .before .before .loop .inv) (omega arith) (sym (said-here (c .before .before)) ∙ ap said (c .enum-told .given .1))
+loop-again c =
+    look-pass (c .before .before .before .before .before .before .before .loop .inv) (omega arith)
+    (sym (said-here (c .before .before)) ∙ ap said (c .enum-told .given .1))
 
 returns-2 : tie.Need-returns-2 Inv-loop μ-loop
 returns-2 c = sym (look-end (c .before .loop .inv) (omega arith))

@@ -1,7 +1,7 @@
 -- `residual_service::residual` meets its contract: its passes are the checks, in their order, and it writes only after the last of them. Assumes nothing.
 use mathlib.Core.Path.{_∙_}
 use Rattle.rules.specs.Refusals.{afterwards}
-use Rattle.residual.proofs.Checks.{pass-refuses, pass-accepts, none-left, accepted-by, unwritten}
+use Rattle.answer.proofs.Checks.{pass-refuses, pass-accepts, none-left, accepted-by, unwritten}
 use Rattle.residual_service.proofs.Hours.{in-parts, shape-lent, shape-lengths}
 use borrow.Author.Needs.{needs}
 use Rattle.residual_service.proofs.residual.Statement.{statement}
@@ -69,7 +69,10 @@ judge-hours-requires c κs =
     let c3 = c in
     let c2 = c3 .before .before .before in
     let c1 = c2 .before .before .before in
-    record { lengths = shape-lengths _ _ _ _ _ _ (accepted-by (c1 .before .before .residual-shape .ensures) (c1 .enum-told .given .1)); ranges = (accepted-by (c2 .before .before .flows-in-range .ensures) (c2 .enum-told3 .given .1)) }
+    record {
+      lengths = shape-lengths _ _ _ _ _ _ (accepted-by (c1 .before .before .residual-shape .ensures) (c1 .enum-told .given .1));
+      ranges = accepted-by (c2 .before .before .flows-in-range .ensures) (c2 .enum-told3 .given .1);
+    }
 
 enum-told-7 : tie.Need-enum-told-7
 enum-told-7 c = search needs
@@ -95,8 +98,16 @@ write-residuals-requires c κs =
     let c4 = c .before in
     let c3 = c4 .before .before .before in
     let c2 = c3 .before .before .before in
-    let c1 = c2 .before .before .before in
-    (record { ranged = record { lengths = shape-lengths _ _ _ _ _ _ (accepted-by (c1 .before .before .residual-shape .ensures) (c1 .enum-told .given .1)); ranges = (accepted-by (c2 .before .before .flows-in-range .ensures) (c2 .enum-told3 .given .1)) }; hours = (accepted-by (c4 .before .before .judge-hours .ensures) (c4 .enum-told7 .given .1)) }, shape-lent _ _ _ _ _ _ (accepted-by (c1 .before .before .residual-shape .ensures) (c1 .enum-told .given .1)))
+    let c1 = c2 .before .before .before in (
+      record {
+        ranged = record {
+          lengths = shape-lengths _ _ _ _ _ _ (accepted-by (c1 .before .before .residual-shape .ensures) (c1 .enum-told .given .1));
+          ranges = accepted-by (c2 .before .before .flows-in-range .ensures) (c2 .enum-told3 .given .1);
+        };
+        hours = (accepted-by (c4 .before .before .judge-hours .ensures) (c4 .enum-told7 .given .1));
+      },
+      shape-lent _ _ _ _ _ _ (accepted-by (c1 .before .before .residual-shape .ensures) (c1 .enum-told .given .1)),
+    )
 
 same-length : tie.Need-same-length
 same-length c = search needs

@@ -36,9 +36,14 @@ shared-slice-read-residual-of-3 : tie.Need-shared-slice-read-residual-of-3
 shared-slice-read-residual-of-3 c = search needs
 
 -- the net supply of the hour, read back from its bits
-net-is : (c : tie.After-residual-of-arg) → toZ w64 (ofZ w64 (getD (c .before .before .before .before .args .nets .now) (c .before .before .before .before .args .t) (pos 0))) ≡ getD (c .before .before .before .before .args .nets .now) (c .before .before .before .before .args .t) (pos 0)
+net-is :
+    (c : tie.After-residual-of-arg)
+    → let a = c .before .before .before .before .args in
+    let net = getD (a .nets .now) (a .t) (pos 0) in
+    toZ w64 (ofZ w64 net) ≡ net
 net-is c =
-    let f : SFits w64 (getD (c .before .before .before .before .args .nets .now) (c .before .before .before .before .args .t) (pos 0)) = search needs in
+    let a = c .before .before .before .before .args in
+    let f : SFits w64 (getD (a .nets .now) (a .t) (pos 0)) = search needs in
     toZ-ofZ f
 
 residual-of-requires : tie.Need-residual-of-requires

@@ -1,7 +1,7 @@
 -- `residual_service::residual_shape` meets its contract: its tests are the checks, in their order. Assumes nothing.
 use borrow.Author.Tests.{eq-eqb, ne-eqb}
 use Rattle.rules.specs.Words.{within}
-use Rattle.residual.proofs.Checks.{flag-off, flag-on, test-refuses, test-passes, none-left}
+use Rattle.answer.proofs.Checks.{flag-off, flag-on, test-refuses, test-passes, none-left}
 use Rattle.residual_service.specs.Passes.{residualShape}
 use Rattle.residual_service.proofs.residual_shape.Statement.{statement}
 use Rattle.residual_service.proofs.residual_shape.Tie as tie

@@ -10,7 +10,7 @@ use Rattle.rules.specs.Flows.{silentIsZero}
 use Rattle.rules.specs.Services.{silentCheck, flowsOf, atℤ}
 use Rattle.rules.specs.Words.{at}
 use Rattle.rules.proofs.Loops.{Looking, look-start, look-pass, look-stop, look-end}
-use Rattle.residual.proofs.Places.{passes, stops}
+use Rattle.answer.proofs.Checks.{passes, stops}
 use Rattle.residual_service.proofs.Hours.{silent-said}
 use borrow.Author.Needs.{needs}
 use native.Mathlib.Omega.{arith}
@@ -58,15 +58,25 @@ silent-is-zero-requires : tie.Need-silent-is-zero-requires Inv-loop μ-loop
 silent-is-zero-requires c κs = search needs
 
 -- what the test says of the hour
-tested : (c : tie.After-silent-is-zero Inv-loop μ-loop) → c .silent-is-zero .result ≡ silentIsZero (flowsOf (c .before .before .before .before .before .before .before .before .before .before .before .before .args .statuses .now) (c .before .before .before .before .before .before .before .before .before .before .before .before .args .nets .now) (c .before .before .before .before .before .before .before .before .before .before .before .before .args .productions .now) (c .before .before .before .before .before .before .before .before .before .before .before .before .args .hourlies .now) (c .before .before .before .before .before .before .before .before .before .before .before .before .args .flexes .now) (c .before .before .before .before .before .before .before .loop .t))
+tested :
+    (c : tie.After-silent-is-zero Inv-loop μ-loop)
+    → let turn = c .before .before .before .before .before .before .before in
+    let a = turn .before .before .before .before .before .args in
+    c .silent-is-zero .result
+    ≡ silentIsZero (flowsOf (a .statuses .now) (a .nets .now) (a .productions .now) (a .hourlies .now) (a .flexes .now) (turn .loop .t))
 unfolding at atℤ
 tested c =
-    let f : SFits w64 (getD (c .before .before .before .before .before .before .before .before .before .before .before .before .args .nets .now) (c .before .before .before .before .before .before .before .loop .t) (pos 0)) = search needs in
+    let turn = c .before .before .before .before .before .before .before in
+    let nets = turn .before .before .before .before .before .args .nets .now in
+    let f : SFits w64 (getD nets (turn .loop .t) (pos 0)) = search needs in
     silent-said _ _ _ _ _ _ (toZ-ofZ f) (c .silent-is-zero .ensures)
 
 returns : tie.Need-returns Inv-loop μ-loop
 unfolding silentCheck
-returns c = sym (look-stop (c .before .before .before .before .before .before .before .before .loop .inv) (omega arith) (stops _ _ (tested (c .before)) (c .if1 .taken)))
+returns c =
+    sym
+    (look-stop (c .before .before .before .before .before .before .before .before .loop .inv) (omega arith)
+    (stops _ _ (tested (c .before)) (c .if1 .taken)))
 
 add-t : tie.Need-add-t Inv-loop μ-loop
 add-t c = search needs
@@ -76,7 +86,9 @@ loop-less c = search needs
 
 loop-again : tie.Need-loop-again Inv-loop μ-loop
 unfolding silentCheck
-loop-again c = look-pass (c .before .before .before .before .before .before .before .before .loop .inv) (omega arith) (passes _ _ (tested (c .before)) (c .if1 .left))
+loop-again c =
+    look-pass (c .before .before .before .before .before .before .before .before .loop .inv) (omega arith)
+    (passes _ _ (tested (c .before)) (c .if1 .left))
 
 returns-2 : tie.Need-returns-2 Inv-loop μ-loop
 returns-2 c = sym (look-end (c .before .loop .inv) (omega arith))

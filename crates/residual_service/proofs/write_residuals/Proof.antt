@@ -5,10 +5,8 @@ use lib.ListN.{length}
 use mir.Facts.{toZ-ofZ}
 use mir.Syntax.{w64}
 use mir.Val.{toZ, ofZ}
-use Rattle.rules.specs.Flows.{residual}
-use Rattle.rules.specs.Words.{at}
-use Rattle.residual.specs.Hour.{flowsHere}
-use Rattle.rules.specs.Services.{atℤ, residualFigures, residualAt}
+use Rattle.residual_service.specs.Passes.{residualHere}
+use Rattle.rules.specs.Services.{residualFigures, residualAt}
 use Rattle.rules.proofs.Loops.{Filling, fill-start, fill-next, fill-end}
 use Rattle.residual_service.proofs.Hours.{within-limits, written-fits, written-is}
 use borrow.Author.Needs.{needs}
@@ -29,7 +27,11 @@ residual-at-requires : tie.Need-residual-at-requires Inv-loop μ-loop
 residual-at-requires c κs = within-limits _ _ _ _ _ (c .before .before .before .before .before .before .before .pre .0 .ranged) _ (omega arith)
 
 -- the machine's number is the hour's residual
-figure-is : (c : tie.After-residual-at Inv-loop μ-loop) → toZ w64 (ofZ w64 (c .residual-at .result)) ≡ residual (flowsHere 0 (atℤ (c .before .before .before .before .before .before .before .before .args .nets .now) (c .before .before .loop .t)) (at (c .before .before .before .before .before .before .before .before .args .productions .now) (c .before .before .loop .t)) (at (c .before .before .before .before .before .before .before .before .args .hourlies .now) (c .before .before .loop .t)) (at (c .before .before .before .before .before .before .before .before .args .flexes .now) (c .before .before .loop .t)))
+figure-is :
+    (c : tie.After-residual-at Inv-loop μ-loop)
+    → let a = c .before .before .before .before .before .before .before .before .args in
+    toZ w64 (ofZ w64 (c .residual-at .result))
+    ≡ residualHere (a .nets .now) (a .productions .now) (a .hourlies .now) (a .flexes .now) (c .before .before .loop .t)
 figure-is c = toZ-ofZ (record { sfits = c .residual-at .ok }) ∙ c .residual-at .ensures
 
 cast-out : tie.Need-cast-out Inv-loop μ-loop

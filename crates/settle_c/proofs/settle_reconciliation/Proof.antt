@@ -10,10 +10,26 @@ use Rattle.settle_c.proofs.settle_reconciliation.Statement.{statement}
 use Rattle.settle_c.proofs.settle_reconciliation.Tie as tie
 
 -- the promise of the service; the price that is passed on in bits is the price
-promised : (c : tie.After-reconciliation) → Promised (c .before .before .before .before .args .residual-wh) (c .before .before .before .before .args .distributed-wh .now) (c .before .before .before .before .args .periodised-wh .now) (c .before .before .before .before .args .carrier) (c .before .before .before .before .args .price-ore) (c .before .before .before .before .args .differences-wh .now) (c .before .before .before .before .args .amounts-millionths .now) (c .reconciliation .result) (c .reconciliation .last .1 .1 .1 .1 .1 .0) (c .reconciliation .last .1 .1 .1 .1 .1 .1 .0)
+promised :
+    (c : tie.After-reconciliation)
+    → let a = c .before .before .before .before .args in
+    let lists = c .reconciliation .last .1 .1 .1 .1 .1 in
+    Promised (a .residual-wh) (a .distributed-wh .now) (a .periodised-wh .now) (a .carrier) (a .price-ore) (a .differences-wh .now)
+    (a .amounts-millionths .now) (c .reconciliation .result) (lists .0) (lists .1 .0)
 promised c =
-    subst (λ (price : ℤ). Promised (c .before .before .before .before .args .residual-wh) (c .before .before .before .before .args .distributed-wh .now) (c .before .before .before .before .args .periodised-wh .now) (c .before .before .before .before .args .carrier) price (c .before .before .before .before .args .differences-wh .now) (c .before .before .before .before .args .amounts-millionths .now) (c .reconciliation .result) (c .reconciliation .last .1 .1 .1 .1 .1 .0) (c .reconciliation .last .1 .1 .1 .1 .1 .1 .0)) (toZ-ofZ (c .before .before .before .before .fits .price-ore))
-    (record { answers = c .reconciliation .ensures .0; tells = c .reconciliation .ensures .1 .0; holds-differences = c .reconciliation .ensures .1 .1 .0; holds-amounts = c .reconciliation .ensures .1 .1 .1 })
+    let a = c .before .before .before .before .args in
+    let lists = c .reconciliation .last .1 .1 .1 .1 .1 in
+    subst
+    (λ (price : ℤ).
+    Promised (a .residual-wh) (a .distributed-wh .now) (a .periodised-wh .now) (a .carrier) price (a .differences-wh .now)
+    (a .amounts-millionths .now) (c .reconciliation .result) (lists .0) (lists .1 .0))
+    (toZ-ofZ (c .before .before .before .before .fits .price-ore))
+    (record {
+      answers = c .reconciliation .ensures .0;
+      tells = c .reconciliation .ensures .1 .0;
+      holds-differences = c .reconciliation .ensures .1 .1 .0;
+      holds-amounts = c .reconciliation .ensures .1 .1 .1;
+    })
 
 reconciliation-requires : tie.Need-reconciliation-requires
 reconciliation-requires c κs = search needs

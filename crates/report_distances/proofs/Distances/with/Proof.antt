@@ -10,17 +10,14 @@ distances-of-requires c κs = (search needs, near (c .before .before .before .be
 returns : tie.Need-returns
 returns c = with-first (c .before .before .before .before .before .before .pre) (c .before .distances-of .ensures) _ (c .if1 .taken)
 
-smallest-of-requires : tie.Need-smallest-of-requires
-smallest-of-requires c κs = search needs
-
-largest-of-requires : tie.Need-largest-of-requires
-largest-of-requires c κs = search needs
+widened-requires : tie.Need-widened-requires
+widened-requires c κs = search needs
 
 returns-2 : tie.Need-returns-2
 returns-2 c =
-    with-more (c .before .before .before .before .before .before .before .before .before .before .before .before .before .before .pre) (c .before .before .before .before .before .before .before .before .before .distances-of .ensures) _ (c .before .before .before .before .before .before .before .before .if1 .left) (c .before .before .before .smallest-of .ensures) (c .largest-of .ensures)
+    let later = c .before .before .before .before .before .before in
+    let here = later .before in
+    with-more (here .before .before .before .before .before .pre) (here .distances-of .ensures) _ (later .if1 .left) (c .widened .ensures)
 
 pub with-spec : {M : Type 1} → statement M
-with-spec =
-    tie.close
-    (tie.spec distances-of-requires returns smallest-of-requires largest-of-requires returns-2)
+with-spec = tie.close (tie.spec distances-of-requires returns widened-requires returns-2)

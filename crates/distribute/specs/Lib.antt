@@ -1,0 +1,5 @@
+pub mod Parts
+pub mod Good
+pub mod Shares
+pub mod Demand
+pub mod Written
