@@ -79,7 +79,7 @@ pub extern "C" fn settle_periodisation(e: u64, weights: &[u32], out: &mut [u32])
     ensures answer { λ r. ⌜ r ≡ coded (first (periodisationChecks e (now (weights .entry)) (length (now (out .entry))))) ⌝ }
     ensures contents { λ _. ⌜ now (out .exit) ≡ afterwards (first (periodisationChecks e (now (weights .entry)) (length (now (out .entry))))) (periodisationFigures e (now (weights .entry))) (now (out .entry)) ⌝ }
 {
-    let answered = periodise::periodisation(e, weights, out);
+    let answered = periodise_service::periodisation(e, weights, out);
     code(answered)
 }
 
