@@ -34,18 +34,28 @@ pub test-passes : {b : Bool} {v : Verdict} (r : Refusal) (place : ℕ) (later : 
 unfolding first andThen unless
 test-passes r place later e h = rw e h
 
--- by a pass over the lists, which gave the answer x
+-- by a pass over the lists, which gave the answer a
+module _ {a : Answer} {v : Verdict} (is : said a ≡ v) where
+  pub refused-stops : {r : D.Refusal} {place : ℕ} → a ≡ Refused r place → (later : Verdict) → said a ≡ andThen v later
+  unfolding andThen
+  refused-stops e later = ap said e ∙ sym (ap (λ (x : Verdict). andThen x later) (sym is ∙ ap said e))
+
+  pub done-passes : a ≡ Done → (later : Verdict) → andThen v later ≡ later
+  unfolding andThen
+  done-passes e later = ap (λ (x : Verdict). andThen x later) (sym is ∙ ap said e)
+
+-- the same of a list of checks
 pub pass-refuses :
     {x : Answer} {check : Verdict} {r : D.Refusal} {place : ℕ} (later : List Verdict)
     → said x ≡ check
     → x ≡ Refused r place
     → said x ≡ first (check ∷ later)
-unfolding first andThen
-pass-refuses later e told = rw (sym e, told)
+unfolding first
+pass-refuses later e told = refused-stops e told (first later)
 
 pub pass-accepts : {x : Answer} {check v : Verdict} (later : List Verdict) → said x ≡ check → x ≡ Done → v ≡ first later → v ≡ first (check ∷ later)
-unfolding first andThen
-pass-accepts later e told h = rw (sym e, told) h
+unfolding first
+pass-accepts later e told h = h ∙ sym (done-passes e told (first later))
 
 -- the last of them
 pub last-check : (check : Verdict) → check ≡ first (check ∷ [])

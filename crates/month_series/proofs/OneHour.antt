@@ -14,19 +14,36 @@ use Rattle.rules.specs.Refusals.{Refusal, residualTooLarge}
 use Rattle.rules.specs.Words.{withinℤ}
 use Rattle.rules.proofs.Whole.{both-pass, within-size}
 
-pub flows-within : (f : Flows) → flowsInRange f ≡ true → WithinLimits (f .net) (f .production) (f .hourly) (f .flex)
-unfolding flowsInRange
-flows-within f e =
-    let t3 = both-pass (leb (f .status) estimated && withinℤ greatestFlow (f .net) && leb (f .production) greatestFlow && leb (f .hourly) greatestFlow) (leb (f .flex) greatestFlow) e in
-    let t2 = both-pass (leb (f .status) estimated && withinℤ greatestFlow (f .net) && leb (f .production) greatestFlow) (leb (f .hourly) greatestFlow) (t3 .0) in
-    let t1 = both-pass (leb (f .status) estimated && withinℤ greatestFlow (f .net)) (leb (f .production) greatestFlow) (t2 .0) in
-    let t0 = both-pass (leb (f .status) estimated) (withinℤ greatestFlow (f .net)) (t1 .0) in
-    record { net-within = within-size greatestFlow (f .net) (t0 .1); production-within = leb-true (f .production) greatestFlow (t1 .1); hourly-within = leb-true (f .hourly) greatestFlow (t2 .1); flex-within = leb-true (f .flex) greatestFlow (t3 .1) }
+module _ (f : Flows) where
+  -- the tests of the flows' ranges, up to the net supply, the production and the hourly settled
+  abbrev net : Bool
+  net = leb (f .status) estimated && withinℤ greatestFlow (f .net)
+
+  abbrev production : Bool
+  production = net && leb (f .production) greatestFlow
+
+  abbrev hourly : Bool
+  hourly = production && leb (f .hourly) greatestFlow
+
+  pub flows-within : flowsInRange f ≡ true → WithinLimits (f .net) (f .production) (f .hourly) (f .flex)
+  unfolding flowsInRange
+  flows-within e =
+      let all = both-pass hourly (leb (f .flex) greatestFlow) e in
+      let to-hourly = both-pass production (leb (f .hourly) greatestFlow) (all .0) in
+      let to-production = both-pass net (leb (f .production) greatestFlow) (to-hourly .0) in
+      let to-net = both-pass (leb (f .status) estimated) (withinℤ greatestFlow (f .net)) (to-production .0) in
+      record {
+        net-within = within-size greatestFlow (f .net) (to-net .1);
+        production-within = leb-true (f .production) greatestFlow (to-production .1);
+        hourly-within = leb-true (f .hourly) greatestFlow (to-hourly .1);
+        flex-within = leb-true (f .flex) greatestFlow (all .1);
+      }
 
 -- the machine's numbers are the net supply and the residual, which the status has no part in
-pub judged-is : (f : Flows) (hour : Hour) {net wh z : ℤ} → net ≡ f .net → wh ≡ residual (flowsHere 0 net (f .production) (f .hourly) (f .flex)) → z ≡ wh → judgement hour ≡ judgedBy (f .status) z → judgement hour ≡ judged f
-unfolding judged residual
-judged-is f hour n r e j = j ∙ rw (e, r, n)
+module _ (f : Flows) (hour : Hour) {net wh z : ℤ} (n : net ≡ f .net) (r : wh ≡ residual (flowsHere 0 net (f .production) (f .hourly) (f .flex))) where
+  pub judged-is : z ≡ wh → judgement hour ≡ judgedBy (f .status) z → judgement hour ≡ judged f
+  unfolding judged residual
+  judged-is e j = j ∙ rw (e, r, n)
 
 -- a figure that an hour is judged to have is its residual
 no-figure : {r : Refusal} {n : ℕ} → figure n ≡ noFigure r → ⊥

@@ -24,29 +24,42 @@ use Rattle.rules.proofs.Whole.{every-at, ReadingRight}
 abbrev pub followsIn : MonthFile → ℕ → Bool
 followsIn m j = eqb (readingAt m j .e) 0 || leb 1 (S m (readingAt m j))
 
-module _ (file : List ℕ) (s : Sections) (ok : Accepted file s) (j : ℕ) (b : j < s .readings) {x : CReading.Reading} (is : ReadingIs file j x) where
-  same : readingOf x ≡ readingAt (monthOf file) j
-  same = reading-read file s ok is
+-- reading j of an accepted file, read beside the beginnings of the file's curve
+pub record Read (file : List ℕ) (s : Sections) (lent : List ℕ) (j : ℕ) (x : CReading.Reading) : Type 0 where
+  pub accepted : Accepted file s
+  pub written : lent ≡ beginningsOf (monthOf file)
+  pub number : j < s .readings
+  pub is : ReadingIs file j x
 
-  right : ReadingRight (H (monthOf file)) (P (monthOf file)) (readingOf x)
+module _ {file : List ℕ} {s : Sections} {lent : List ℕ} {j : ℕ} {x : CReading.Reading} (read : Read file s lent j x) where
+  abbrev m : MonthFile
+  m = monthOf file
+
+  pub in-file : j < length (m .readings)
+  in-file = omega (arith, read .number, readings-are file s (read .accepted))
+
+  same : readingOf x ≡ readingAt m j
+  same = reading-read file s (read .accepted) (read .is)
+
+  right : ReadingRight (H m) (P m) (readingOf x)
   unfolding readingAt
   right =
-      subst (ReadingRight (H (monthOf file)) (P (monthOf file))) (sym same)
-      (every-at (ReadingRight (H (monthOf file)) (P (monthOf file))) (monthOf file .readings) (month-whole file s ok .readings) j _ (omega (arith, readings-are file s ok)))
+      subst (ReadingRight (H m) (P m)) (sym same)
+      (every-at (ReadingRight (H m) (P m)) (m .readings) (month-whole file s (read .accepted) .readings) j _ in-file)
 
-  module _ {lent : List ℕ} (written : lent ≡ beginningsOf (monthOf file)) where
-    many : length lent ≡ suc (H (monthOf file))
-    many = ap length written ∙ figures-length _ _
+  many : length lent ≡ suc (H m)
+  many = ap length (read .written) ∙ figures-length _ _
 
-    pub ends-stand : (x .a < length lent) × (x .b < length lent)
-    ends-stand = (omega (arith, many, right), omega (arith, many, right))
+  pub ends-stand : (x .a < length lent) × (x .b < length lent)
+  ends-stand = (omega (arith, many, right), omega (arith, many, right))
 
-    stands : {t : ℕ} → t < length lent → getD lent t 0 ≡ beginning (curve (monthOf file)) t
-    stands {t} c = ap (λ (l : List ℕ). getD l t 0) written ∙ figures-at _ _ t 0 (omega (arith, many))
+  stands : {t : ℕ} → t < length lent → getD lent t 0 ≡ beginning (curve m) t
+  stands {t} c = ap (λ (l : List ℕ). getD l t 0) (read .written) ∙ figures-at _ _ t 0 (omega (arith, many))
 
-    pub end-not-less : getD lent (x .a) 0 ≤ getD lent (x .b) 0
-    end-not-less = rw (stands (ends-stand .0), stands (ends-stand .1)) (beginning-rises _ (omega (arith, right)))
+  pub end-not-less : getD lent (x .a) 0 ≤ getD lent (x .b) 0
+  end-not-less = rw (stands (ends-stand .0), stands (ends-stand .1)) (beginning-rises _ (omega (arith, right)))
 
-    -- what the code's test says is the test of the reading's check
-    pub follows-is : {passed : Bool} → passed ≡ followsBy (x .«e_wh») (getD lent (x .a) 0) (getD lent (x .b) 0) → passed ≡ followsIn (monthOf file) j
-    follows-is e = e ∙ rw (stands (ends-stand .0), stands (ends-stand .1), ← same, S-by-beginnings (monthOf file) (readingOf x) (omega (arith, right)))
+  -- what the code's test says is the test of the reading's check
+  pub follows-is : {passed : Bool} → passed ≡ followsBy (x .«e_wh») (getD lent (x .a) 0) (getD lent (x .b) 0) → passed ≡ followsIn m j
+  follows-is e =
+      e ∙ rw (stands (ends-stand .0), stands (ends-stand .1), ← same, S-by-beginnings m (readingOf x) (omega (arith, right)))

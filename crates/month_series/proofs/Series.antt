@@ -23,6 +23,7 @@ use Rattle.record.specs.declared.Flows as CFlows
 use Rattle.residual.specs.Hour.{judgement}
 use Rattle.residual.specs.declared.Hour.{Hour}
 use Rattle.rules.specs.Flows.{Flows, Judgement, figure, noFigure, flowsInRange, judged, verdictOf}
+use Rattle.rules.specs.Limits as Limits
 use Rattle.rules.specs.Month.{monthOf, flowsAt, hourVerdict, isEstimated}
 use Rattle.rules.specs.Words.{sum, count}
 use Rattle.rules.proofs.Loops.{Looking, look-start, look-pass, look-stop, look-end, Filling, fill-start, fill-next, fill-end}
@@ -73,29 +74,31 @@ one-or-none true = omega arith
 one-or-none false = omega arith
 
 pub one-at-most : (status : ℕ) → estimatedOne status ≤ 1
-one-at-most status = one-or-none (eqb status 2)
+one-at-most status = one-or-none (eqb status Limits.estimated)
 
-module _ {series : List Flows} {out : List ℕ} {n t : ℕ} (l : Judging series out n t) (b : t < length series) {f : Flows} (here : f ≡ flowsAt series t) (hour : Hour) (is : judgement hour ≡ judged f) where
-  pub judge-next : {wh k : ℕ} → judgement hour ≡ figure wh → k ≡ estimatedOne (f .status) → Judging series (set out t wh) (n + k) (t + 1)
-  unfolding hourVerdict residualAt verdictOf isEstimated count sum
-  judge-next {wh} {k} h e =
-      let known : judged (flowsAt series t) ≡ figure wh = ap judged (sym here) ∙ sym is ∙ h in
-      record {
-        looking = look-pass (l .looking) b (ap (λ (j : Judgement). verdictOf j t) known);
-        filling = fill-next (l .filling) b (figure-is (flowsAt series t) (sym known));
-        counted = rw (add-one t) (cc (e, here, l .counted));
-        few = omega (arith, l .few, e, one-at-most (f .status));
-      }
+module _ {series : List Flows} {out : List ℕ} {n t : ℕ} (l : Judging series out n t) (b : t < length series) where
+  -- the hour at t, as it was read and judged
+  module _ {f : Flows} (here : f ≡ flowsAt series t) (hour : Hour) (is : judgement hour ≡ judged f) where
+    pub judge-next : {wh k : ℕ} → judgement hour ≡ figure wh → k ≡ estimatedOne (f .status) → Judging series (set out t wh) (n + k) (t + 1)
+    unfolding hourVerdict residualAt verdictOf isEstimated count sum
+    judge-next {wh} {k} h e =
+        let known : judged (flowsAt series t) ≡ figure wh = ap judged (sym here) ∙ sym is ∙ h in
+        record {
+          looking = look-pass (l .looking) b (ap (λ (j : Judgement). verdictOf j t) known);
+          filling = fill-next (l .filling) b (figure-is (flowsAt series t) (sym known));
+          counted = rw (add-one t) (cc (e, here, l .counted));
+          few = omega (arith, l .few, e, one-at-most (f .status));
+        }
 
-  pub judge-stop : (r : Refusal) → judgement hour ≡ noFigure (named r) → SeriesIs series (Refused r t) out
-  unfolding hourVerdict verdictOf
-  judge-stop r h =
-      let known : judged (flowsAt series t) ≡ noFigure (named r) = ap judged (sym here) ∙ sym is ∙ h in
-      record {
-        verdict = sym (look-stop (l .looking) b (ap (λ (j : Judgement). verdictOf j t) known));
-        figures = λ e. absurd (refused-not-accepted e);
-        estimated = λ k e. cc;
-      }
+    pub judge-stop : (r : Refusal) → judgement hour ≡ noFigure (named r) → SeriesIs series (Refused r t) out
+    unfolding hourVerdict verdictOf
+    judge-stop r h =
+        let known : judged (flowsAt series t) ≡ noFigure (named r) = ap judged (sym here) ∙ sym is ∙ h in
+        record {
+          verdict = sym (look-stop (l .looking) b (ap (λ (j : Judgement). verdictOf j t) known));
+          figures = λ e. absurd (refused-not-accepted e);
+          estimated = λ k e. cc;
+        }
 
 pub judge-end : {series : List Flows} {out : List ℕ} {n t : ℕ} → Judging series out n t → length series ≤ t → SeriesIs series (Figures n) out
 judge-end {series} {out} {n} {t} l b =

@@ -40,10 +40,16 @@ pub add-start : {curve out : List ℕ} → length out ≡ suc (length curve) →
 unfolding beginning sum
 add-start e = record { within = omega arith; filling = fill-start _ e; is = refl; small = omega arith }
 
-pub add-next : {curve out : List ℕ} {so-far t : ℕ} → Adding curve out so-far t → t < length curve → at curve t ≤ 4294967295 → Adding curve (set out t so-far) (so-far + at curve t) (t + 1)
-unfolding beginning sum
-add-next {curve} {out} {so-far} {t} l b h =
-    record { within = omega arith; filling = fill-next (l .filling) (omega arith) (l .is); is = rw (add-one t) (ap (λ (n : ℕ). n + at curve t) (l .is)); small = omega (arith, l .small) }
+module _ {curve out : List ℕ} {so-far t : ℕ} (l : Adding curve out so-far t) where
+  pub add-next : t < length curve → at curve t ≤ 4294967295 → Adding curve (set out t so-far) (so-far + at curve t) (t + 1)
+  unfolding beginning sum
+  add-next b h =
+      record {
+        within = omega arith;
+        filling = fill-next (l .filling) (omega arith) (l .is);
+        is = rw (add-one t) (ap (λ (n : ℕ). n + at curve t) (l .is));
+        small = omega (arith, l .small);
+      }
 
-pub add-end : {curve out : List ℕ} {so-far t : ℕ} → Adding curve out so-far t → length curve ≤ t → set out t so-far ≡ figures (suc (length curve)) (beginning (at curve))
-add-end {curve} {out} {so-far} {t} l b = fill-end (fill-next (l .filling) (omega (arith, l .within)) (l .is)) (omega arith)
+  pub add-end : length curve ≤ t → set out t so-far ≡ figures (suc (length curve)) (beginning (at curve))
+  add-end b = fill-end (fill-next (l .filling) (omega (arith, l .within)) (l .is)) (omega arith)

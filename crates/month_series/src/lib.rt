@@ -16,13 +16,11 @@ ghost use Rattle.month_series.specs.Series.{seriesOf, hoursIn, beginning
 ghost use Rattle.record.specs.Record.{flowsOf};
 ghost use Rattle.residual.specs.Hour.{judgement};
 ghost use Rattle.rules.specs.Flows.{judged, flowsInRange};
+ghost use Rattle.rules.specs.Limits.{mostHours};
 ghost use Rattle.rules.specs.Month.{monthOf, shareOf, flowsAt, readingVerdict};
 ghost use Rattle.rules.specs.MonthFile.{P};
 ghost use Rattle.rules.specs.Refusals.{inTurn};
 ghost use Rattle.rules.specs.Words.{figures, at};
-
-// "Each hour has a status: 0 missing, 1 measured, 2 estimated."
-const ESTIMATED: u8 = 2;
 
 // A series that was judged: how many of its hours are estimated, where each has its figure; or the first refusal and its hour.
 pub enum Judged {
@@ -64,11 +62,11 @@ fn judge_flows(f: Flows) -> Hour
     residual::judge(f.status, wh)
 }
 
-// 1 for an estimated hour.
+// "the number of applied hours with status 2": 1 for such an hour.
 fn estimated_one(status: u8) -> usize
     ensures { λ n. ⌜ n ≡ estimatedOne status ⌝ }
 {
-    if status == ESTIMATED { 1 } else { 0 }
+    if status == limits::ESTIMATED { 1 } else { 0 }
 }
 
 // "then the fixed hours in order, each 7, 8, 9; the refixed hours likewise": the residual of every hour of either series, or the first hour that has none.
@@ -105,7 +103,7 @@ pub fn hours(file: &[u8], s: Sections, refixed: bool, out: &mut [u32]) -> Judged
 // What the curve adds up to before each hour, and last over the whole month: the weights of a reading a..b are then a difference of two of these.
 pub fn beginnings(curve: &[u32], out: &mut [u64])
     requires { ⌜ length (now out) ≡ suc (length (now curve)) ⌝ }
-    requires { ⌜ length (now curve) ≤ 745 ⌝ }
+    requires { ⌜ length (now curve) ≤ mostHours ⌝ }
     ensures { λ _. ⌜ now (out .exit) ≡ figures (suc (length (now (curve .entry)))) (beginning (at (now (curve .entry)))) ⌝ }
 {
     let mut sum = 0;

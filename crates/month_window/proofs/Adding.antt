@@ -5,7 +5,7 @@ use mathlib.Core.List.{List}
 use mathlib.Core.Logic.{_⊎_, inl, inr, ⊎-elim}
 use mathlib.Core.Path.{_≡_, refl, sym, _∙_, ap, ap₂}
 use Prim.Native.Nat.{ℕ, suc, _+_, _-_, _*_, _≤_, _<_, max, min}
-use native.Mathlib.Nat.{le-trans, mul-le-mul-right, eq-or-lt-of-le}
+use native.Mathlib.Nat.{le-refl, le-trans, mul-le-mul-right, eq-or-lt-of-le}
 use native.Mathlib.Omega.{arith}
 use borrow.Author.Tests.{eqb-true, eqb-false, eq-eqb}
 use borrow.Rule.Slice.PartMut.{midOf, putMid, mid-len, same-len-mid}
@@ -13,11 +13,10 @@ use lib.Dec.{eqb}
 use lib.ListN.{length}
 use Rattle.month_series.specs.Series.{beginning}
 use Rattle.month_window.specs.Window.{figureBy, figureTo, Taken, Added}
-use Rattle.month_window.proofs.Figures.{between, figure-at-most, figure-inside, none-before, none-after, part-growth}
+use Rattle.month_window.proofs.Figures.{between, by-at-most, none-before, none-after, part-growth}
 use Rattle.month_window.proofs.Parts.{part-at, before-part, in-part, after-part}
-use Rattle.periodise.specs.Growth.{growthFrom, grownFrom, Part, Room}
-use Rattle.periodise.proofs.Growth.{sum-rises}
-use Rattle.periodise.proofs.Order.{sum-bound}
+use Rattle.periodise.specs.Growth.{growthFrom, grownFrom, greatestWhole, Part, Room}
+use Rattle.periodise.proofs.Growth.{sum-rises, sum-bound}
 use Rattle.rules.specs.Limits.{greatestCurveNumber, greatestEnergy}
 use Rattle.rules.specs.Record.{Reading}
 use Rattle.rules.specs.Words.{sum, at, figures}
@@ -112,84 +111,102 @@ module _ {r : Reading} {curve beginnings : List ℕ} {start hours : ℕ} {out : 
         }
 
     -- SOME OF IT
-    module _ (some : begin < end) {before whole : ℕ} (before-is : before ≡ at beginnings begin - at beginnings (r .a)) (whole-is : whole ≡ at beginnings (r .b) - at beginnings (r .a)) where
-      abbrev weights : List ℕ
-      weights = midOf begin (end - begin) curve
+    module _ (some : begin < end) {whole skipped : ℕ} (whole-is : whole ≡ at beginnings (r .b) - at beginnings (r .a)) (skipped-is : skipped ≡ at beginnings begin - at beginnings (r .a)) where
+      -- the reading's part of the curve, and the places that are lent for the run of it in the window
+      abbrev part : List ℕ
+      part = midOf (r .a) (r .b - r .a) curve
+
+      abbrev skip : ℕ
+      skip = begin - r .a
 
       abbrev lent : List ℕ
       lent = midOf low (high - low) out
 
-      hours-of-part : length weights ≡ end - begin
-      hours-of-part = mid-len begin end curve (omega (arith, t .in-month))
+      hours-of-part : length part ≡ r .b - r .a
+      hours-of-part = mid-len (r .a) (r .b) curve (t .in-month)
 
-      places-of-part : length lent ≡ high - low
-      places-of-part = mid-len low high out (omega (arith, t .places))
+      places-of-run : length lent ≡ end - begin
+      places-of-run = mid-len low high out (omega (arith, t .places)) ∙ omega arith
 
-      before-weighs : before ≡ sum (begin - r .a) (λ k. at curve (r .a + k))
-      before-weighs = weighs (omega arith) (omega (arith, t .in-month)) before-is
+      own-weight : (k : ℕ) → k < r .b - r .a → at part k ≡ at curve (r .a + k)
+      own-weight k b = part-at (r .a) (r .b) curve k b
+
+      own-weights : (n : ℕ) → n ≤ r .b - r .a → sum n (at part) ≡ sum n (λ k. at curve (r .a + k))
+      own-weights n b =
+          sum-cong n {f = at part} {g = λ k. at curve (r .a + k)} (λ k c. own-weight k (omega arith))
 
       whole-weighs : whole ≡ sum (r .b - r .a) (λ k. at curve (r .a + k))
       whole-weighs = weighs (t .forwards) (t .in-month) whole-is
 
-      -- the part's growths are the reading's figures
-      growths : (k : ℕ) → k < end - begin → growthFrom (r .e) before whole (at weights) k ≡ figureBy (at curve) r (begin + k)
+      -- the run's growths are the reading's figures
+      growths : (k : ℕ) → k < end - begin → growthFrom (r .e) 0 whole (at part) (skip + k) ≡ figureBy (at curve) r (begin + k)
       growths k b =
-          part-growth (at curve) r (omega arith) before-weighs whole-weighs {part = at weights} k (omega arith)
-          (λ i c. part-at begin end curve i (omega arith))
+          let there : skip + k ≡ begin + k - r .a = omega arith in
+          ap (growthFrom (r .e) 0 whole (at part)) there
+          ∙ part-growth (at curve) r whole-weighs {part = at part} own-weight (begin + k) (omega arith) (omega arith)
 
       -- which are none of them above E
-      growth-small : (k : ℕ) → k < end - begin → growthFrom (r .e) before whole (at weights) k ≤ greatestEnergy
-      growth-small k b =
-          rw (growths k b, figure-inside (at curve) r (begin + k) (omega arith) (omega arith))
-          (le-trans (figure-at-most (r .e) (r .b - r .a) (λ j. at curve (r .a + j)) (begin + k - r .a) (omega arith)) (t .energy))
+      growth-small : (k : ℕ) → k < end - begin → growthFrom (r .e) 0 whole (at part) (skip + k) ≤ greatestEnergy
+      growth-small k b = rw (growths k b) (le-trans (by-at-most (at curve) r (begin + k)) (t .energy))
 
       -- what the periodisation asks
-      part-weighs : sum (length weights) (at weights) ≡ at beginnings end - at beginnings begin
+      whole-small : whole ≤ greatestWhole
       unfolding beginning
-      part-weighs =
-          ap (λ (n : ℕ). sum n (at weights)) hours-of-part
-          ∙ sum-cong (end - begin) {f = at weights} {g = λ k. at curve (begin + k)} (λ k b. part-at begin end curve k b)
-          ∙ sym (weighs {a = begin} {b = end} (omega arith) (omega (arith, t .in-month)) refl)
+      whole-small =
+          omega (arith, whole-is, t .few, t .in-month, t .begun (r .b) (t .in-month), sum-bound (r .b) (at curve) greatestCurveNumber (λ i c. t .fits i (omega (arith, t .in-month))))
 
-      pub part-asked : Part (r .e) before whole weights (length lent)
-      unfolding beginning
+      all-of-it : 0 + sum (length part) (at part) ≤ whole
+      all-of-it =
+          let same : sum (length part) (at part) ≡ sum (r .b - r .a) (at part) = ap (λ (n : ℕ). sum n (at part)) hours-of-part in
+          omega (arith, same, own-weights (r .b - r .a) (le-refl (r .b - r .a)), whole-weighs)
+
+      passed-weighs : skipped ≡ sum skip (at part)
+      passed-weighs = weighs (omega arith) (omega (arith, t .in-month)) skipped-is ∙ sym (own-weights skip (omega arith))
+
+      part-asked : Part (r .e) 0 whole part skip skipped (length lent)
       part-asked =
           record {
-            energy = t .energy;
-            inside = omega (arith, part-weighs, ordered {a = r .a} {b = begin} (omega arith) (omega (arith, t .in-month)) .1 .1, ordered {a = begin} {b = end} (omega arith) (omega (arith, t .in-month)) .1 .1, ordered {a = end} {b = r .b} (omega arith) (t .in-month) .1 .1);
-            most = omega (arith, t .few, t .in-month, t .begun (r .b) (t .in-month), sum-bound (r .b) (at curve) greatestCurveNumber (λ i c. t .fits i (omega (arith, t .in-month))));
-            size = omega (arith, places-of-part, hours-of-part);
+            spread = record { energy = t .energy; inside = all-of-it; most = whole-small };
+            run = omega (arith, places-of-run, hours-of-part);
+            passed = passed-weighs;
           }
 
-      pub room-asked : Room lent (r .e) before whole weights
+      room-asked : Room lent (r .e) 0 whole (at part) skip
       unfolding Room grownFrom
       room-asked k b =
-          let inside : k < end - begin = omega (arith, hours-of-part) in
+          let inside : k < end - begin = omega (arith, places-of-run) in
           let same : r .party * hours + (begin - start + k) ≡ low + k = omega arith in
           omega (arith, growth-small k inside, part-at low high out k (omega arith), t .room (begin - start + k) (omega arith), ap (at out) same)
 
-      module _ {ys : List ℕ} (given : ys ≡ figures (length weights) (grownFrom lent (r .e) before whole (at weights))) where
+      -- SOME OF IT ADDED: the lent places come back with what they held and the run's figures
+      module _ {ys : List ℕ} (given : ys ≡ figures (length lent) (grownFrom lent (r .e) 0 whole (at part) skip)) where
         as-many : length ys ≡ high - low
-        as-many = ap length given ∙ figures-length (length weights) _ ∙ omega (arith, hours-of-part)
+        as-many = ap length given ∙ figures-length (length lent) _ ∙ omega (arith, places-of-run)
 
-        inside-part : (i k : ℕ) → i ≡ r .party → begin ≤ start + k → start + k < end → at (putMid low (high - low) out ys) (i * hours + k) ≡ at out (i * hours + k) + figureTo (at curve) r i (start + k)
+        abbrev after : List ℕ
+        after = putMid low (high - low) out ys
+
+        inside-run : (i k : ℕ) → Inside i k → at after (i * hours + k) ≡ at out (i * hours + k) + figureTo (at curve) r i (start + k)
         unfolding at grownFrom
-        inside-part i k e from-there to-there =
+        inside-run i k p =
+            let e = p .0 in
+            let from-there : begin ≤ start + k = p .1 in
+            let to-there : start + k < end = p .2 in
             let k′ = start + k - begin in
             let same : i * hours ≡ r .party * hours = ap (λ (x : ℕ). x * hours) e in
             let there : i * hours + k ≡ low + k′ = omega arith in
             let when : begin + k′ ≡ start + k = omega arith in
-            ap (at (putMid low (high - low) out ys)) there
+            ap (at after) there
             ∙ in-part low high out ys (omega arith) (omega (arith, t .places)) as-many k′ (omega arith)
             ∙ ap (λ (l : List ℕ). at l k′) given
-            ∙ figures-at (length weights) (grownFrom lent (r .e) before whole (at weights)) k′ 0 (omega (arith, hours-of-part))
+            ∙ figures-at (length lent) (grownFrom lent (r .e) 0 whole (at part) skip) k′ 0 (omega (arith, places-of-run))
             ∙ ap₂ (λ (x y : ℕ). x + y) (part-at low high out k′ (omega arith) ∙ ap (at out) (sym there))
             (growths k′ (omega arith) ∙ ap (figureBy (at curve) r) when ∙ sym (to-its-party (at curve) r i (start + k) e))
 
-        pub part-added : Added r curve start hours out (putMid low (high - low) out ys)
-        part-added =
+        some-added : Added r curve start hours out after
+        some-added =
             record {
-              size = same-len-mid low (high - low) out ys (as-many ∙ sym places-of-part);
+              size = same-len-mid low (high - low) out ys (as-many ∙ omega (arith, places-of-run));
               each = λ i k b.
                   ⊎-elim
                   (λ (o : Outside i k).
@@ -199,6 +216,17 @@ module _ {r : Reading} {curve beginnings : List ℕ} {start hours : ℕ} {out : 
                   (λ (g : high ≤ i * hours + k).
                   omega (arith, o .0, after-part low high out ys (omega arith) (omega (arith, t .places)) as-many (i * hours + k) g))
                   (o .1))
-                  (λ (p : Inside i k). inside-part i k (p .0) (p .1) (p .2))
+                  (inside-run i k)
                   (placed i k b);
             }
+
+      -- THE SAME of places that were worked out apart
+      module _ {x y : ℕ} (x-is : x ≡ low) (y-is : y ≡ high) where
+        abbrev lent-there : List ℕ
+        lent-there = midOf x (y - x) out
+
+        pub run-asked : Part (r .e) 0 whole part skip skipped (length lent-there) × Room lent-there (r .e) 0 whole (at part) skip
+        run-asked = rw (x-is, y-is) (part-asked, room-asked)
+
+        pub run-added : {ys : List ℕ} → ys ≡ figures (length lent-there) (grownFrom lent-there (r .e) 0 whole (at part) skip) → Added r curve start hours out (putMid x (y - x) out ys)
+        run-added given = rw (x-is, y-is) (some-added (rw (x-is, y-is) at given))

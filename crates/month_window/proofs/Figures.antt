@@ -1,4 +1,4 @@
--- A reading's figures in a part of its hours: the growths of the part, with the weight before it out of the weight of all, are the reading's figures there.
+-- A reading's figures by the curve: the growths of its part of the curve are the reading's figures, and none is above E.
 use mathlib.Core.Bool.{Bool, true, false, cond, _&&_}
 use mathlib.Core.Logic.{⊎-elim}
 use mathlib.Core.Path.{_≡_, refl, sym, _∙_, ap, ap₂}
@@ -11,7 +11,7 @@ use Rattle.month_series.specs.Series.{beginning}
 use Rattle.month_series.proofs.Weights.{beginning-split}
 use Rattle.month_window.specs.Window.{figureBy}
 use Rattle.periodise.specs.Growth.{growthFrom}
-use Rattle.periodise.proofs.Growth.{part-of-whole, whole-growth, growth-at-most, sum-rises}
+use Rattle.periodise.proofs.Growth.{whole-growth, growth-at-most, sum-rises}
 use Rattle.rules.specs.Periodised.{sumSoFar, periodisedFigure}
 use Rattle.rules.specs.Record.{Reading}
 use Rattle.rules.specs.Words.{sum}
@@ -73,7 +73,10 @@ module _ (weight : ℕ → ℕ) (r : Reading) (t : ℕ) where
 pub by-cong : {f g : ℕ → ℕ} (r : Reading) (t : ℕ) → ((i : ℕ) → i < r .b → f i ≡ g i) → figureBy f r t ≡ figureBy g r t
 by-cong {f} {g} r t same =
     by-hours r t
-    (λ from-a to-b. figure-inside f r t from-a to-b ∙ figure-cong (r .e) (r .b - r .a) {f = λ k. f (r .a + k)} {g = λ k. g (r .a + k)} (t - r .a) (omega arith) (λ i c. same (r .a + i) (omega arith)) ∙ sym (figure-inside g r t from-a to-b))
+    (λ from-a to-b.
+    figure-inside f r t from-a to-b
+    ∙ figure-cong (r .e) (r .b - r .a) {f = λ k. f (r .a + k)} {g = λ k. g (r .a + k)} (t - r .a) (omega arith) (λ i c. same (r .a + i) (omega arith))
+    ∙ sym (figure-inside g r t from-a to-b))
     (λ b. none-before f r t b ∙ sym (none-before g r t b))
     (λ b. none-after f r t b ∙ sym (none-after g r t b))
 
@@ -85,20 +88,15 @@ by-at-most weight r t =
     (λ b. rw (none-before weight r t b) zero-le)
     (λ b. rw (none-after weight r t b) zero-le)
 
--- THE PART'S GROWTHS ARE THE READING'S FIGURES: of the hours from `begin` on, as far as they lie in the reading
-module _ (weight : ℕ → ℕ) (r : Reading) {before whole begin : ℕ} (later : r .a ≤ begin) (before-is : before ≡ sum (begin - r .a) (λ k. weight (r .a + k))) (whole-is : whole ≡ sum (r .b - r .a) (λ k. weight (r .a + k))) where
+-- THE PART'S GROWTHS ARE THE READING'S FIGURES: nothing of the reading lies before its part, and its whole is the part's own weight
+module _ (weight : ℕ → ℕ) (r : Reading) {whole : ℕ} (whole-is : whole ≡ sum (r .b - r .a) (λ k. weight (r .a + k))) where
   abbrev own : ℕ → ℕ
   own k = weight (r .a + k)
 
-  pub part-growth : {part : ℕ → ℕ} (k : ℕ) → begin + k < r .b → ((i : ℕ) → i < suc k → part i ≡ weight (begin + i)) → growthFrom (r .e) before whole part k ≡ figureBy weight r (begin + k)
-  part-growth {part} k b same =
-      let there : begin - r .a + k ≡ begin + k - r .a = omega arith in
-      growth-cong (r .e) before whole {f = part} {g = λ i. own (begin - r .a + i)} k
-      (λ i c.
-      let e : begin + i ≡ r .a + (begin - r .a + i) = omega arith in
-      same i c ∙ ap weight e)
-      ∙ ap₂ (λ (x y : ℕ). growthFrom (r .e) x y (λ i. own (begin - r .a + i)) k) (before-is ∙ sym (zero-add (sum (begin - r .a) own))) whole-is
-      ∙ part-of-whole (r .e) 0 (sum (r .b - r .a) own) own (begin - r .a) k
-      ∙ whole-growth (r .e) (r .b - r .a) own (begin - r .a + k)
-      ∙ ap (periodisedFigure (r .e) (r .b - r .a) own) there
-      ∙ sym (figure-inside weight r (begin + k) (omega arith) b)
+  module _ {part : ℕ → ℕ} (same : (i : ℕ) → i < r .b - r .a → part i ≡ own i) where
+    pub part-growth : (t : ℕ) → r .a ≤ t → t < r .b → growthFrom (r .e) 0 whole part (t - r .a) ≡ figureBy weight r t
+    part-growth t from-a to-b =
+        growth-cong (r .e) 0 whole {f = part} {g = own} (t - r .a) (λ i c. same i (omega arith))
+        ∙ ap (λ (s : ℕ). growthFrom (r .e) 0 s own (t - r .a)) whole-is
+        ∙ whole-growth (r .e) (r .b - r .a) own (t - r .a)
+        ∙ sym (figure-inside weight r t from-a to-b)

@@ -19,7 +19,7 @@ use Rattle.file_fields.proofs.Readers.{reading-stands}
 use Rattle.month_series.specs.Series.{beginning}
 use Rattle.month_window.specs.Window.{figureBy, figureTo, noWh, Window, Asked, Taken, Added}
 use Rattle.month_window.proofs.Figures.{by-cong, by-at-most}
-use Rattle.periodise.proofs.Order.{sum-bound}
+use Rattle.periodise.proofs.Growth.{sum-bound}
 use Rattle.record.specs.Record.{readingOf}
 use Rattle.record.specs.declared.Reading as CReading
 use Rattle.rules.specs.Limits.{greatestEnergy, longestFile}
@@ -148,6 +148,13 @@ module _ {file : List ℕ} {s : Sections} {numbers beginnings : List ℕ} {start
             room = λ k c. omega (arith, n .each (readingAt m j .party) k (right j in-file .0) c, small (start + k) (readingAt m j .party) j (n .bound), few-readings file s (a .accepted));
           })
 
+      -- what the reading gives each party is what the rules give it
+      its-figure : (i k : ℕ) → figureTo (at numbers) (readingOf x) i (start + k) ≡ figureFor m (start + k) i j
+      its-figure i k =
+          ap (λ (r : Reading). figureTo (at numbers) r i (start + k)) is
+          ∙ to-cong {f = at numbers} {g = curve m} (readingAt m j) i (start + k) (λ t e. number-at t (omega (arith, right j in-file .2)))
+          ∙ sym (for-is-to m (start + k) i j)
+
       pub counted-next : {later : List ℕ} → Added (readingOf x) numbers start hours out later → Counted m start hours later (j + 1)
       unfolding sum
       counted-next {later} added =
@@ -155,8 +162,7 @@ module _ {file : List ℕ} {s : Sections} {numbers beginnings : List ℕ} {start
             bound = omega (arith, in-file);
             size = added .size ∙ n .size;
             each = λ i k c d.
-                let figure : figureTo (at numbers) (readingOf x) i (start + k) ≡ figureFor m (start + k) i j = ap (λ (r : Reading). figureTo (at numbers) r i (start + k)) is ∙ to-cong {f = at numbers} {g = curve m} (readingAt m j) i (start + k) (λ t e. number-at t (omega (arith, right j in-file .2))) ∙ sym (for-is-to m (start + k) i j) in
-                rw (add-one j) (added .each i k d ∙ ap₂ (λ (y z : ℕ). y + z) (n .each i k c d) figure);
+                rw (add-one j) (added .each i k d ∙ ap₂ (λ (y z : ℕ). y + z) (n .each i k c d) (its-figure i k));
           }
 
     -- ALL READINGS

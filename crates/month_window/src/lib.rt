@@ -1,9 +1,10 @@
 // The periodised consumption of all parties in a window of hours (01 "Periodised consumption"; H2 6.2). The readings are gone through once for a window; of
-// each the part that lies in it is spread, as a slice of the curve of its own, with the weight before that part taken from the curve's beginnings.
+// each the run of its hours that lies in it is worked out, what the hours before that run weigh being a difference of two of the curve's beginnings.
 use file_sections::Sections;
+use periodise::Spread;
 use record::Reading;
 ghost use mathlib.Core.Path.{_≡_};
-ghost use Prim.Native.Nat.{_-_, _≤_, _<_, max, min};
+ghost use Prim.Native.Nat.{_+_, _-_, _*_, _^_, _≤_, _<_, max, min};
 ghost use lib.ListN.{length};
 ghost use Rattle.month_window.specs.Window.{Asked, Window, Taken, Added, noWh};
 ghost use Rattle.record.specs.Record.{readingOf};
@@ -21,6 +22,7 @@ fn clear(out: &mut [u64])
     }
 }
 
+// The later and the earlier of two hours.
 fn later(x: usize, y: usize) -> usize
     ensures { λ r. ⌜ r ≡ max x y ⌝ }
 {
@@ -30,13 +32,21 @@ fn later(x: usize, y: usize) -> usize
     x
 }
 
-fn earlier(x: usize, y: usize) -> usize
+pub fn earlier(x: usize, y: usize) -> usize
     ensures { λ r. ⌜ r ≡ min x y ⌝ }
 {
     if x < y {
         return x;
     }
     y
+}
+
+// Where a party's k-th hour of the window stands: party after party, each with a place for every hour.
+fn place(party: u8, hours: usize, k: usize) -> usize
+    requires { ⌜ party * hours + k < 2 ^ 64 ⌝ }
+    ensures { λ r. ⌜ r ≡ party * hours + k ⌝ }
+{
+    party as usize * hours + k
 }
 
 // What the curve weighs between two hours.
@@ -47,8 +57,8 @@ fn weight_between(beginnings: &[u64], a: usize, b: usize) -> u64
     beginnings[b] - beginnings[a]
 }
 
-// One reading: the part of its hours that lies in the window. "the reading's a..b part of the curve slice is handed to the periodisation function as a slice
-// of its own" (01 "Expected forms by place").
+// One reading, in the run of its hours that lies in the window. "The reading's a..b part of the curve slice is handed to the periodisation function as a slice of
+// its own" (01 "Expected forms by place"): the part is the whole reading, whatever of it the window has, and nothing of the reading lies before its part.
 fn add_reading(
     x: Reading,
     curve: &[u32],
@@ -65,16 +75,20 @@ fn add_reading(
     let begin = later(a, start);
     let end = earlier(b, start + hours);
     if begin < end {
-        let before = weight_between(beginnings, a, begin);
+        let low = place(x.party, hours, begin - start);
+        let high = place(x.party, hours, end - start);
         let whole = weight_between(beginnings, a, b);
-        let own = x.party as usize * hours;
-        let low = own + (begin - start);
-        let high = own + (end - start);
+        let skipped = weight_between(beginnings, a, begin);
+        let spread = Spread {
+            e_wh: x.e_wh as u64,
+            before: 0,
+            whole: whole,
+        };
         periodise::add(
-            x.e_wh as u64,
-            before,
-            whole,
-            &curve[begin..end],
+            spread,
+            &curve[a..b],
+            begin - a,
+            skipped,
             &mut out[low..high],
         );
     }

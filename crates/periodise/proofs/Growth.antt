@@ -18,6 +18,12 @@ sum-rises {k} {n} f b =
     let s : sum n f ≡ sum (k + (n - k)) f = ap (λ (m : ℕ). sum m f) e in
     omega (arith, sum-split k (n - k) f)
 
+-- figures that are each at most `most` add up to at most so much
+pub sum-bound : (n : ℕ) (f : ℕ → ℕ) (most : ℕ) → ((i : ℕ) → i < n → f i ≤ most) → sum n f ≤ n * most
+unfolding sum
+sum-bound zero f most h = zero-le
+sum-bound (suc n) f most h = omega (arith, sum-bound n f most (λ i b. h i (omega arith)), h n (omega arith))
+
 -- THE RULES' FIGURE is the growth of a part that is the whole
 pub whole-growth : (e hours : ℕ) (weight : ℕ → ℕ) (k : ℕ) → growthFrom e 0 (sum hours weight) weight k ≡ periodisedFigure e hours weight k
 unfolding growthFrom periodisedFigure
@@ -35,6 +41,10 @@ over e {x} {whole} b =
     (eq-zero-or-pos whole)
 
 module _ (e before whole : ℕ) (weight : ℕ → ℕ) (k : ℕ) where
+  -- E x (weights so far)
+  abbrev passed : ℕ
+  passed = e * (before + sum k weight)
+
   one-more : e * (before + sum (suc k) weight) ≡ e * (before + sum k weight) + e * weight k
   unfolding sum
   one-more = omega arith
@@ -43,11 +53,10 @@ module _ (e before whole : ℕ) (weight : ℕ → ℕ) (k : ℕ) where
   pub growth-is : before + sum (suc k) weight ≤ whole → growthFrom e before whole weight k ≡ (e * (before + sum k weight) % max whole 1 + e * weight k) / max whole 1
   unfolding growthFrom sum
   growth-is b =
-      let p : 0 < max whole 1 = omega arith in
-      let g : (e * (before + sum k weight) + e * weight k) / max whole 1 ≡ e * (before + sum k weight) / max whole 1 + (e * (before + sum k weight) % max whole 1 + e * weight k) / max whole 1 = carry (e * (before + sum k weight)) (e * weight k) p in
-      let n : sumSoFar e (before + sum (suc k) weight) whole ≡ (e * (before + sum k weight) + e * weight k) / max whole 1 = over e b ∙ ap (λ (x : ℕ). x / max whole 1) one-more in
-      let f : sumSoFar e (before + sum k weight) whole ≡ e * (before + sum k weight) / max whole 1 = over e (omega arith) in
-      omega (arith, g, n, f)
+      let some : 0 < max whole 1 = omega arith in
+      let after : sumSoFar e (before + sum (suc k) weight) whole ≡ (passed + e * weight k) / max whole 1 = over e b ∙ ap (λ (x : ℕ). x / max whole 1) one-more in
+      let until : sumSoFar e (before + sum k weight) whole ≡ passed / max whole 1 = over e (omega arith) in
+      omega (arith, carry passed (e * weight k) some, after, until)
 
   -- and what it keeps for the next
   pub rest-is : (divisor : ℕ) → (e * (before + sum k weight) % divisor + e * weight k) % divisor ≡ e * (before + sum (suc k) weight) % divisor
@@ -78,5 +87,7 @@ module _ (e before whole : ℕ) (weight : ℕ → ℕ) where
   growth-at-most k b =
       ⊎-elim
       (λ (z : whole ≡ 0). rw (z, div-zero, div-zero) (zero-le))
-      (λ (p : 0 < whole). le-trans (sub-le (sumSoFar e (before + sum (suc k) weight) whole) (sumSoFar e (before + sum k weight) whole)) (le-trans (sum-so-far-rises e whole b) (le-of-eq (mul-div-cancel e p))))
+      (λ (p : 0 < whole).
+      le-trans (sub-le (sumSoFar e (before + sum (suc k) weight) whole) (sumSoFar e (before + sum k weight) whole))
+      (le-trans (sum-so-far-rises e whole b) (le-of-eq (mul-div-cancel e p))))
       (eq-zero-or-pos whole)

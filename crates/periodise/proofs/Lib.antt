@@ -3,5 +3,3 @@ pub mod Growth
 pub mod Turning
 pub mod Spreading
 pub mod Summing
-pub mod Order
-pub mod Unique

@@ -98,7 +98,7 @@ pub extern "C" fn settle_periodisation(e: u64, weights: &[u32], out: &mut [u32])
         (periodisationFigures e (now (weights .entry)))
         (now (out .entry)) ⌝ }
 {
-    let answered = periodise::periodisation(e, weights, out);
+    let answered = periodise_service::periodisation(e, weights, out);
     code(answered)
 }
 

@@ -13,17 +13,29 @@ Inv-loop file s curve beginnings start hours out₀ readings j₀ out j = Counte
 abbrev μ-loop : tie.MeasureT-loop
 μ-loop file s curve beginnings start hours out₀ readings j₀ out j = readings - j
 
+-- what was asked, seen from the loop; the loop, seen from the end of a turn
+abbrev asked : tie.At-loop Inv-loop μ-loop → tie.Start Inv-loop μ-loop
+asked c = c .before .before .before .before .before .before .before .before .before
+
+abbrev turn : tie.After-slice-known3 Inv-loop μ-loop → tie.After-reading Inv-loop μ-loop
+turn c = c .before .before .before .before
+
 clear-requires : tie.Need-clear-requires Inv-loop μ-loop
 clear-requires c κs = search needs
 
 loop-holds : tie.Need-loop-holds Inv-loop μ-loop
-loop-holds c = counted-start (c .before .before .before .before .before .before .before .before .pre) (c .before .before .clear .ensures)
+loop-holds c =
+    let cleared = c .before .before in
+    counted-start (cleared .before .before .before .before .before .before .pre) (cleared .clear .ensures)
 
 reading-requires : tie.Need-reading-requires Inv-loop μ-loop
-reading-requires c κs = reading-asked (c .before .before .before .before .before .before .before .before .before .before .pre) (omega arith)
+reading-requires c κs = reading-asked (asked (c .before) .pre) (omega arith)
 
 add-reading-requires : tie.Need-add-reading-requires Inv-loop μ-loop
-add-reading-requires c κs = taken (c .before .before .before .before .before .before .before .before .before .before .before .before .pre) (c .before .before .before .loop .inv) (c .before .before .loop-test .taken) (c .before .reading .ensures)
+add-reading-requires c κs =
+    let read = c .before in
+    let l = read .before .before in
+    taken (asked l .pre) (l .loop .inv) (read .before .loop-test .taken) (read .reading .ensures)
 
 add-j : tie.Need-add-j Inv-loop μ-loop
 add-j c = search needs
@@ -32,13 +44,16 @@ loop-less : tie.Need-loop-less Inv-loop μ-loop
 loop-less c = search needs
 
 loop-again : tie.Need-loop-again Inv-loop μ-loop
-loop-again c = counted-next (c .before .before .before .before .before .before .before .before .before .before .before .before .before .before .before .pre) (c .before .before .before .before .before .before .loop .inv) (c .before .before .before .before .before .loop-test .taken) (c .before .before .before .before .reading .ensures) (c .before .before .add-reading .ensures)
+loop-again c =
+    let read = turn c in
+    let l = read .before .before in
+    counted-next (asked l .pre) (l .loop .inv) (read .before .loop-test .taken) (read .reading .ensures) (c .before .before .add-reading .ensures)
 
 same-length : tie.Need-same-length Inv-loop μ-loop
 same-length c = search needs
 
 returns : tie.Need-returns Inv-loop μ-loop
-returns c = counted-end (c .before .before .before .before .before .before .before .before .before .before .pre) (c .before .loop .inv) (omega arith)
+returns c = counted-end (asked (c .before) .pre) (c .before .loop .inv) (omega arith)
 
 pub window-spec : {M : Type 1} → statement M
 window-spec =

@@ -9,7 +9,7 @@ use Rattle.periodise.proofs.hour_of.Statement.{statement}
 use Rattle.periodise.proofs.hour_of.Tie as tie
 
 -- the weight of 64 bits is the weight
-turning : (c : tie.After-wide) → Turning (c .before .args .e) (c .wide .result) (c .before .args .left) (c .before .args .whole)
+turning : (c : tie.After-wide) → Turning (c .before .args .e) (c .wide .result) (c .before .args .left) (c .before .args .divisor)
 turning c = rw (c .wide .ensures) (c .before .pre)
 
 wide-requires : tie.Need-wide-requires
@@ -33,8 +33,8 @@ rem-rest c = search needs
 returns : tie.Need-returns
 returns c =
     record {
-      figure = ap (λ (x : ℕ). (c .before .args .left + c .before .args .e * x) / c .before .args .whole) (c .wide .ensures);
-      keeps = ap (λ (x : ℕ). (c .before .args .left + c .before .args .e * x) % c .before .args .whole) (c .wide .ensures);
+      figure = ap (λ (x : ℕ). (c .before .args .left + c .before .args .e * x) / c .before .args .divisor) (c .wide .ensures);
+      keeps = ap (λ (x : ℕ). (c .before .args .left + c .before .args .e * x) % c .before .args .divisor) (c .wide .ensures);
     }
 
 pub hour-of-spec : {M : Type 1} → statement M

@@ -26,7 +26,9 @@ wide-requires : tie.Need-wide-requires Inv-loop μ-loop
 wide-requires c κs = search needs
 
 add-sum-so-far : tie.Need-add-sum-so-far Inv-loop μ-loop
-add-sum-so-far c = omega (arith, sum-fits (c .before .before .before .loop .inv) (c .before .before .before .before .before .pre) (c .before .before .loop-test .taken) (c .wide .ensures) (c .before .shared-slice-known2 .given _))
+add-sum-so-far c =
+    let l = c .before .before .before in
+    omega (arith, sum-fits (l .loop .inv) (l .before .before .pre) (c .before .before .loop-test .taken) (c .wide .ensures) (c .before .shared-slice-known2 .given _))
 
 add-i : tie.Need-add-i Inv-loop μ-loop
 add-i c = search needs

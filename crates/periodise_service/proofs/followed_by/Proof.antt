@@ -1,9 +1,9 @@
--- `periodise::followed_by` meets its contract: its tests are those of the check. Assumes nothing.
+-- `periodise_service::followed_by` meets its contract: its tests are those of the check. Assumes nothing.
 use borrow.Author.Tests.{eq-eqb, ne-eqb, le-leb, lt-leb}
-use Rattle.periodise.specs.Growth.{followCheck}
+use Rattle.periodise_service.specs.Follow.{followCheck}
 use Rattle.rules.specs.Refusals.{unless}
-use Rattle.periodise.proofs.followed_by.Statement.{statement}
-use Rattle.periodise.proofs.followed_by.Tie as tie
+use Rattle.periodise_service.proofs.followed_by.Statement.{statement}
+use Rattle.periodise_service.proofs.followed_by.Tie as tie
 
 returns : tie.Need-returns
 unfolding followCheck unless

@@ -1,5 +1,5 @@
--- No second result fits: the promise of each public function leaves one answer and one content of what it was lent. And what the service gives, of
--- any result that meets its promise: its figures add up to E where S is positive, and are 0 where E and S are.
+-- No second result fits: the service's promise leaves one answer and one content of what it was lent. And what the service gives, of any result that meets
+-- its promise: its figures add up to E where S is positive, and are 0 where E and S are.
 use mathlib.Core.List.{List}
 use mathlib.Core.Logic.{inr}
 use mathlib.Core.Path.{_≡_, sym, _∙_, ap}
@@ -22,11 +22,15 @@ pub record Promised (e : ℕ) (weights before : List ℕ) (r : Answer) (after : 
   pub answer : said r ≡ first (periodisationChecks e weights (length before))
   pub contents : after ≡ afterwards (said r) (periodisationFigures e weights) before
 
-pub periodisation-once : {e : ℕ} {weights before : List ℕ} {r s : Answer} {after later : List ℕ} → Promised e weights before r after → Promised e weights before s later → (r ≡ s) × (after ≡ later)
-periodisation-once {e} {weights} {before} {r} {s} p q = (
-  said-once r s (p .answer ∙ sym (q .answer)),
-  p .contents ∙ ap (λ (v : Verdict). afterwards v (periodisationFigures e weights) before) (p .answer ∙ sym (q .answer)) ∙ sym (q .contents),
-)
+module _ {e : ℕ} {weights before : List ℕ} {r s : Answer} {after later : List ℕ} where
+  pub periodisation-once : Promised e weights before r after → Promised e weights before s later → (r ≡ s) × (after ≡ later)
+  periodisation-once p q = (
+    said-once r s same,
+    p .contents ∙ ap (λ (v : Verdict). afterwards v (periodisationFigures e weights) before) same ∙ sym (q .contents),
+  )
+    where
+      same : said r ≡ said s
+      same = p .answer ∙ sym (q .answer)
 
 module _ {e : ℕ} {weights before : List ℕ} {r : Answer} {after : List ℕ} (p : Promised e weights before r after) (done : r ≡ Done) where
   given : after ≡ periodisationFigures e weights
@@ -45,7 +49,3 @@ module _ {e : ℕ} {weights before : List ℕ} {r : Answer} {after : List ℕ} (
   -- "With E = 0 and S = 0 every figure is 0."
   pub given-nothing : sum (length weights) (at weights) ≡ 0 → (k : ℕ) → k < length weights → at after k ≡ 0
   given-nothing none k b = given-at k b ∙ nothing-over-nothing e (length weights) (at weights) k (inr none)
-
--- the helpers that other crates call promise that a result, or what a lent list then holds, equals one value
-pub equal-to-one : {A : Type 0} {value r s : A} → r ≡ value → s ≡ value → r ≡ s
-equal-to-one p q = p ∙ sym q
