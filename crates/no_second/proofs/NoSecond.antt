@@ -47,7 +47,7 @@ services-for-C =
 records : Records
 unfolding OneFits
 records =
-    record { gln-check = λ part. one-value _; gln-part-at = λ file at. one-value _; body-length = λ kind. one-value _; gln-in = λ part r. one-value _; fault = λ r gln hours parties place a b p q. fault-once hours parties place r gln a b p q; read-alone = λ part r s p q. read-once _ r s p q; write = λ r gln lent v w p q i. (write-once (v .0) (w .0) (p .0) (q .0) i, (p .1 ∙ sym (q .1)) i); write-plain = λ kind numbers gln lent v w p q i. (write-once (v .0) (w .0) (p .0) (q .0) i, (p .1 ∙ sym (q .1)) i) }
+    record { gln-check = λ part. one-value _; gln-part-at = λ file at. one-value _; body-length = λ kind. one-value _; fault = λ r gln hours parties place a b p q. fault-once hours parties place gln r a b p q; read-alone = λ part r s p q. read-once _ r s p q; write = λ r gln lent v w p q i. (write-once (v .0) (w .0) (p .0) (q .0) i, (p .1 ∙ sym (q .1)) i); write-plain = λ kind numbers gln lent v w p q i. (write-once (v .0) (w .0) (p .0) (q .0) i, (p .1 ∙ sym (q .1)) i) }
 
 whole-files : WholeFiles
 unfolding OneFits

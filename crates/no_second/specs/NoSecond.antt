@@ -22,7 +22,7 @@ use Rattle.file_sections.specs.declared.MonthRead.{MonthRead}
 use Rattle.month_run.specs.Run as Run
 use Rattle.reconcile_service.specs.Told as Hour
 use Rattle.reconcile_service.specs.declared.Reconciled.{Reconciled}
-use Rattle.record.specs.Record.{recordOf, faultOf, glnIn, glnBytes, told}
+use Rattle.record.specs.Record.{recordOf, faultOf, glnBytes, told}
 use Rattle.record.specs.declared.Read.{Read}
 use Rattle.record.specs.declared.Record.{Record}
 use Rattle.record_service.specs.Plain.{plainVerdict, plainRecord}
@@ -114,9 +114,8 @@ pub record Records : Type 0 where
   pub gln-check : (part : List ℕ) → OneFits (λ (r : Gln). r ≡ glnAnswer part)
   pub gln-part-at : (file : List ℕ) (at : ℕ) → OneFits (λ (r : List ℕ). r ≡ glnPart file at)
   pub body-length : (kind : ℕ) → OneFits (λ (r : ℕ). r ≡ bodyLength kind)
-  pub gln-in : (part : List ℕ) (r : Record) → OneFits (λ (g : Gln). g ≡ glnIn part r)
   pub fault :
-      (r : Record) (gln : Gln) (hours parties place : ℕ) → OneFits (λ (a : Answer). said a ≡ faultOf hours parties r gln place)
+      (r : Record) (gln : List ℕ) (hours parties place : ℕ) → OneFits (λ (a : Answer). said a ≡ faultOf hours parties gln r place)
   pub read-alone : (part : List ℕ) → OneFits (λ (r : Read). told (glnBytes part) r ≡ readAlone part)
   pub write :
       (r : Record) (gln lent : List ℕ)

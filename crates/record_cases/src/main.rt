@@ -11,6 +11,17 @@ use record_write::Written;
 
 const OUT: i32 = 1;
 
+// The kinds as the plain entry takes them.
+const PARTY: u64 = record::kind::PARTY as u64;
+
+const READING: u64 = record::kind::READING as u64;
+
+const PRICE: u64 = record::kind::PRICE as u64;
+
+const REFIXED_HOUR: u64 = record::kind::REFIXED_HOUR as u64;
+
+const END: u64 = record::kind::END as u64;
+
 fn refused(x: Refusal, place: usize) {
     io::print_decimal(OUT, answer::number(x) as u64);
     io::write_all(OUT, b" at ");
@@ -221,14 +232,14 @@ fn plain_case(kind: u64, numbers: &[i64]) {
 
 fn plains() {
     plain_case(8, &[0i64; 1]);
-    plain_case(2, &[1000i64]);
-    plain_case(2, &[1000i64, 0]);
-    plain_case(2, &[-1i64]);
-    plain_case(6, &[744i64, 2, -8000000000, 0, 0, 0]);
-    plain_case(4, &[63i64, 65536, 65537, 0]);
-    plain_case(4, &[63i64, 0, 1, 4294967296]);
-    plain_case(5, &[0i64, -5000000]);
-    plain_case(7, &[4294967296i64]);
+    plain_case(PARTY, &[1000i64]);
+    plain_case(PARTY, &[1000i64, 0]);
+    plain_case(PARTY, &[-1i64]);
+    plain_case(REFIXED_HOUR, &[744i64, 2, -8000000000, 0, 0, 0]);
+    plain_case(READING, &[63i64, 65536, 65537, 0]);
+    plain_case(READING, &[63i64, 0, 1, 4294967296]);
+    plain_case(PRICE, &[0i64, -5000000]);
+    plain_case(END, &[4294967296i64]);
 }
 
 fn main() {
