@@ -36,7 +36,7 @@ module _ {m : MonthFile} {made : Made} {fixed refixed numbers begun : List ℕ} 
       record { verdict = refused-before is e; made = λ a. absurd (refused-not-accepted (sym (ap said e) ∙ a)) }
 
   module _ (done : made .answer ≡ Done) {r : Passed} (passed : MonthPassed m r d p) where
-    pub numbers-made : HourlyIs m (record { answer = r .answer; estimated = made .estimated; w = made .carries .w; distances = r .standing .distances }) fixed refixed numbers d p
+    pub numbers-made : HourlyIs m (record { answer = r .answer; estimated = made .estimated; w = made .carries .w; distances = r .distances }) fixed refixed numbers d p
     numbers-made =
         let before = is .made (ap said done) in
         record {
