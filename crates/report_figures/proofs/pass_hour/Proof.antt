@@ -1,55 +1,54 @@
+-- `report_figures::pass_hour` meets its contract: its parts give the hour's sums and distances. Assumes nothing.
+use mathlib.Core.Path.{_∙_, ap}
+use Prim.Native.Nat.{ℕ}
+use lib.IntN.{ℤ}
+use lib.ListN.{set}
+use mir.Facts.{toZ-ofZ}
+use mir.Syntax.{w64}
+use mir.Val.{SFits}
 use borrow.Author.Needs.{needs}
 use Rattle.report_figures.proofs.pass_hour.Statement.{statement}
 use Rattle.report_figures.proofs.pass_hour.Tie as tie
-use Rattle.report_figures.proofs.pass_hour.Reads as reads
-use Rattle.report_figures.proofs.pass_hour.Lts as lts
-use Rattle.hour_settled.proofs.all_periodised.Reads as all-periodised-reads
-use Rattle.hour_settled.proofs.total.Reads as total-reads
-use Rattle.report_distances.proofs.Distances.with.Reads as with-reads
 
--- src/lib.rt:46:13
+abbrev begins : tie.After-with → tie.Start
+begins c = c .before .before .before .before .before .before .before .before .before
+
 sub-k : tie.Need-sub-k
 sub-k c = search needs
 
--- src/lib.rt:50:25
 total-requires : tie.Need-total-requires
 total-requires c κs = search needs
 
--- src/lib.rt:50:5
 mul-t14 : tie.Need-mul-t14
 mul-t14 c = search needs
 
--- src/lib.rt:50:5
 slice-set-from-distributed-wh : tie.Need-slice-set-from-distributed-wh
 slice-set-from-distributed-wh c = search needs
 
--- src/lib.rt:51:24
 all-periodised-requires : tie.Need-all-periodised-requires
 all-periodised-requires c κs = search needs
 
--- src/lib.rt:51:5
 mul-periodised-wh : tie.Need-mul-periodised-wh
 mul-periodised-wh c = search needs
 
--- src/lib.rt:51:5
 slice-write-periodised-wh : tie.Need-slice-write-periodised-wh
 slice-write-periodised-wh c = search needs
 
--- src/lib.rt:52:5
 with-requires : tie.Need-with-requires
 with-requires c κs = search needs
 
--- src/lib.rt:34:1
 same-length : tie.Need-same-length
 same-length c = search needs
 
--- src/lib.rt:34:1
 same-length-2 : tie.Need-same-length-2
 same-length-2 c = search needs
 
--- src/lib.rt:34:1
 returns : tie.Need-returns
-returns c = ?
+returns c = 
+    let fits : SFits w64 (c .before .before .total .result) = search needs in
+    let distributed = ap (λ (z : ℤ). set (begins c .args .distributed-wh .now) (begins c .args .t) z) (toZ-ofZ fits ∙ c .before .before .total .ensures) in
+    let periodised = ap (λ (n : ℕ). set (begins c .args .periodised-wh .now) (begins c .args .t) n) (c .before .all-periodised .ensures) in
+    record { distances = c .with .ensures; distributed = distributed; periodised = periodised }
 
 pub pass-hour-spec : {M : Type 1} → statement M
 pass-hour-spec =
