@@ -10,7 +10,7 @@ use Rattle.answer.proofs.Said.{named-once, said-once}
 use Rattle.apportion.proofs.Arrays.{filled-once}
 use Rattle.month_sums.specs.Outcomes.{OutcomeIs}
 use Rattle.month_sums.specs.Told.{verdict, told, Promised}
-use Rattle.month_sums.specs.Windows.{SumsAre}
+use Rattle.month_sums.specs.Summing.{SumsAre}
 use Rattle.month_sums.specs.declared.Outcome.{Outcome}
 use Rattle.month_sums.specs.declared.Settlement.{Settlement}
 use Rattle.month_sums.specs.declared.Settlement.the-variants.{Settled, Refused}

@@ -1,5 +1,6 @@
 pub mod Hours
-pub mod Weighed
+pub mod Preparing
+pub mod Weighing
 pub mod Numbers
 pub mod Making
 pub mod Applied

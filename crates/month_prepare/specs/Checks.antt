@@ -2,19 +2,21 @@
 -- likewise; 10 by hour; 13 by reading"; and what is made on the way.
 use mathlib.Core.List.{List}
 use mathlib.Core.Path.{_≡_}
-use Prim.Native.Nat.{ℕ, suc, _≤_, _<_}
+use Prim.Native.Nat.{ℕ, suc, _+_, _≤_, _<_}
 use lib.IntN.{pos}
-use lib.ListN.{length, replicate}
+use lib.ListN.{length, replicate, take}
 use Rattle.answer.specs.Said.{said}
 use Rattle.distribute.specs.Good.{Started}
 use Rattle.distribute.specs.declared.Carries.{Carries}
 use Rattle.month_prepare.specs.declared.Made.{Made}
+use Rattle.month_prepare.specs.declared.Prepared.{Prepared}
+use Rattle.month_prepare.specs.declared.Weighed.{Weighed}
 use Rattle.file_sections.specs.Walk.{Accepted}
 use Rattle.file_sections.specs.declared.Sections.{Sections}
 use Rattle.month_series.specs.Series.{residualAt, judgedVerdict, beginningsOf}
 use Rattle.month_series.specs.declared.Judged.{Judged}
 use Rattle.month_series.specs.declared.Judged.the-variants.{Figures}
-use Rattle.rules.specs.Limits.{greatestW, greatestCurveNumber}
+use Rattle.rules.specs.Limits.{greatestW, greatestCurveNumber, mostHours, mostParties}
 use Rattle.rules.specs.Month.{monthOf, shareOf, monthW, fixedWh, curve, estimatedHours, hourVerdict, curveVerdict, readingVerdict}
 use Rattle.rules.specs.MonthFile.{MonthFile, H, P}
 use Rattle.rules.specs.Refusals.{wOutOfRange, Verdict, accepted, unless, andThen, inTurn}
@@ -50,19 +52,10 @@ pub record BothKnown (m : MonthFile) (r : Judged) (fixed refixed : List ℕ) : T
   pub refixed-is : judgedVerdict r ≡ accepted → refixed ≡ Words.figures (length (m .refixed)) (residualAt (m .refixed))
   pub estimated : (n : ℕ) → r ≡ Figures n → n ≡ estimatedHours m
 
--- with W before them; what is lent for the shares and the two series is a place for each
-pub record SeriesAsked (file : List ℕ) (s : Sections) (shares fixed refixed : ℕ) : Type 0 where
-  pub accepted : Accepted file s
-  pub shares-size : shares ≡ s .heading .parties
-  pub fixed-size : fixed ≡ s .heading .hours
-  pub refixed-size : refixed ≡ s .refixed
-
-pub record SeriesKnown (m : MonthFile) (r : Judged) (shares fixed refixed : List ℕ) : Type 0 where
-  pub verdict : judgedVerdict r ≡ seriesVerdict m
-  pub shares-are : shares ≡ Words.figures (P m) (shareOf m)
-  pub fixed-is : judgedVerdict r ≡ accepted → fixed ≡ Words.figures (H m) (fixedWh m)
-  pub refixed-is : judgedVerdict r ≡ accepted → refixed ≡ Words.figures (length (m .refixed)) (residualAt (m .refixed))
-  pub estimated : (n : ℕ) → r ≡ Figures n → n ≡ estimatedHours m
+-- "Then 6": W, and the carries before the first hour
+pub record WeighedIs (m : MonthFile) (r : Weighed) : Type 0 where
+  pub verdict : said (r .answer) ≡ unless (Words.within 1 greatestW (monthW m)) wOutOfRange 0
+  pub started : said (r .answer) ≡ accepted → Started (Words.figures (P m) (shareOf m)) (r .carries)
 
 -- what the curve is made of: hours that are judged, and W
 pub record CurveAsked (file : List ℕ) (s : Sections) (fixed : List ℕ) (w curveNumbers beginnings : ℕ) : Type 0 where
@@ -78,10 +71,9 @@ pub record CurveKnown (m : MonthFile) (v : Verdict) (curveNumbers beginnings : L
   pub curve-is : v ≡ accepted → curveNumbers ≡ Words.figures (H m) (curve m)
   pub beginnings-are : v ≡ accepted → beginnings ≡ beginningsOf m
 
--- a place lent for each share, hour, curve number and beginning
-pub record MakingAsked (file : List ℕ) (s : Sections) (shares fixed refixed curveNumbers beginnings : ℕ) : Type 0 where
+-- a place lent for each hour, curve number and beginning
+pub record MakingAsked (file : List ℕ) (s : Sections) (fixed refixed curveNumbers beginnings : ℕ) : Type 0 where
   pub accepted : Accepted file s
-  pub shares-size : shares ≡ s .heading .parties
   pub fixed-size : fixed ≡ s .heading .hours
   pub refixed-size : refixed ≡ s .refixed
   pub curve-size : curveNumbers ≡ s .heading .hours
@@ -90,7 +82,7 @@ pub record MakingAsked (file : List ℕ) (s : Sections) (shares fixed refixed cu
 -- the carries of no party, where a month is refused before there is a W
 abbrev pub nothingCarried : Carries
 nothingCarried =
-    record { parties = 0; w = 0; «sum_wh» = 0; left = 0; share = replicate 64 0; remainder = replicate 64 0; extra = replicate 64 0; figures = replicate 64 (pos 0) }
+    record { parties = 0; w = 0; «sum_wh» = 0; left = 0; share = replicate mostParties 0; remainder = replicate mostParties 0; extra = replicate mostParties 0; figures = replicate mostParties (pos 0) }
 
 -- WHAT IS MADE of a month that none of these checks refuses
 pub record Making (m : MonthFile) (r : Made) (fixed refixed curveNumbers beginnings : List ℕ) : Type 0 where
@@ -106,3 +98,11 @@ pub record Making (m : MonthFile) (r : Made) (fixed refixed curveNumbers beginni
 pub record MadeIs (m : MonthFile) (r : Made) (fixed refixed curveNumbers beginnings : List ℕ) : Type 0 where
   pub verdict : said (r .answer) ≡ makingVerdict m
   pub made : said (r .answer) ≡ accepted → Making m r fixed refixed curveNumbers beginnings
+
+-- the same, of arrays with a place for each hour that a month can have
+pub record PreparedIs (file : List ℕ) (s : Sections) (r : Prepared) : Type 0 where
+  pub fixed-places : length (r .«fixed_wh») ≡ mostHours
+  pub refixed-places : length (r .«refixed_wh») ≡ mostHours
+  pub curve-places : length (r .curve) ≡ mostHours
+  pub beginnings-places : length (r .beginnings) ≡ suc mostHours
+  pub is : MadeIs (monthOf file) (r .made) (take (s .heading .hours) (r .«fixed_wh»)) (take (s .refixed) (r .«refixed_wh»)) (take (s .heading .hours) (r .curve)) (take (s .heading .hours + 1) (r .beginnings))

@@ -14,9 +14,9 @@ use Rattle.file_sections.specs.Walk.{Accepted}
 use Rattle.file_sections.specs.declared.Sections.{Sections}
 use Rattle.file_sections.proofs.AcceptedFile.{read-as, hours-are, parties-are}
 use Rattle.month_run.specs.Run.{inMonth, lentRight, askedVerdict, runVerdict, Promised}
-use Rattle.month_run_hours.specs.Running.{RunLent, RunIs}
+use Rattle.month_run.specs.Running.{MonthAccepted, RunLent, RunIs}
 use Rattle.month_run.proofs.Verdicts.{run-inside, lengths}
-use Rattle.rules.specs.Month.{monthOf, monthVerdict, verdictOn, fileVerdict}
+use Rattle.rules.specs.Month.{monthOf, verdictOn, fileVerdict}
 use Rattle.rules.specs.MonthFile.{H, P}
 use Rattle.rules.specs.Refusals.{outOfRange, wrongLength, Verdict, accepted, refused, unless, andThen, afterwards}
 use Rattle.rules.proofs.Refusals.{both-accept, unless-exactly}
@@ -37,7 +37,7 @@ module _ (file : List ℕ) (start hours : ℕ) (d : List ℤ) (p : List ℕ) (x 
   refused-file {r} {v} {place} e is =
       refused-call e (ap said e ∙ sym (ap (λ (u : Verdict). andThen u asked) is))
 
-module _ {file : List ℕ} {s : Sections} (ok : Accepted file s) (none : monthVerdict (monthOf file) ≡ accepted) where
+module _ {file : List ℕ} {s : Sections} (ok : Accepted file s) (none : MonthAccepted (monthOf file)) where
   -- the month is not refused, so what is asked of it decides
   module _ (start hours d p x l : ℕ) (right : Answer) (judged : said right ≡ askedVerdict (s .heading .hours) (s .heading .parties) start hours d p x l) where
     run-verdict : said right ≡ runVerdict file start hours d p x l
@@ -46,7 +46,7 @@ module _ {file : List ℕ} {s : Sections} (ok : Accepted file s) (none : monthVe
         judged
         ∙ sym
         (ap (λ (u : Verdict). andThen u (askedVerdict (H (monthOf file)) (P (monthOf file)) start hours d p x l))
-        (ap verdictOn (read-as file s ok) ∙ none)
+        (ap verdictOn (read-as file s ok) ∙ none .accepts)
         ∙ ap₂ (λ (h n : ℕ). askedVerdict h n start hours d p x l) (sym (hours-are file s ok)) (sym (parties-are file s ok)))
 
     module _ (passed : right ≡ Done) where

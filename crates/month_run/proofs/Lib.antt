@@ -1,4 +1,7 @@
 pub mod Verdicts
-pub mod Making
 pub mod Answers
+pub mod Putting
+pub mod OneHour
+pub mod Going
+pub mod Making
 pub mod MonthSums

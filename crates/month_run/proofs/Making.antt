@@ -7,25 +7,24 @@ use lib.Dec.{eqb}
 use Rattle.answer.specs.Said.{said}
 use Rattle.answer.specs.declared.Answer.the-variants.{Done}
 use Rattle.month_sums.specs.Outcomes.{OutcomeIs}
-use Rattle.month_sums.specs.Windows.{Beginning}
+use Rattle.month_walk.specs.Walking.{Beginning}
 use Rattle.month_sums.specs.declared.Outcome.{Outcome}
 use Rattle.month_sums.proofs.Chain as C
 use Rattle.month_prepare.specs.Checks.{MadeIs}
 use Rattle.month_prepare.specs.declared.Made.{Made}
 use Rattle.file_sections.specs.Walk.{Accepted}
 use Rattle.file_sections.specs.declared.Sections.{Sections}
-use Rattle.month_run_hours.specs.Running.{RunKnown}
+use Rattle.month_run.specs.Running.{MonthAccepted, RunKnown}
 use Rattle.residual.specs.Applied.{appliedOf}
-use Rattle.rules.specs.Month.{monthOf, monthVerdict}
+use Rattle.rules.specs.Month.{monthOf}
 use Rattle.rules.specs.MonthFile.{MonthFile}
-use Rattle.rules.specs.Refusals.{accepted}
 
-pub none-refuses : {m : MonthFile} {outcome : Outcome} → OutcomeIs m outcome → outcome .answer ≡ Done → monthVerdict m ≡ accepted
-none-refuses told done = sym (told .verdict) ∙ ap said done
+pub none-refuses : {m : MonthFile} {outcome : Outcome} → OutcomeIs m outcome → outcome .answer ≡ Done → MonthAccepted m
+none-refuses told done = record { accepts = sym (told .verdict) ∙ ap said done }
 
-module _ {file : List ℕ} {s : Sections} (ok : Accepted file s) {made : Made} {fixed refixed numbers begun : List ℕ} (is : MadeIs (monthOf file) made fixed refixed numbers begun) (none : monthVerdict (monthOf file) ≡ accepted) where
+module _ {file : List ℕ} {s : Sections} (ok : Accepted file s) {made : Made} {fixed refixed numbers begun : List ℕ} (is : MadeIs (monthOf file) made fixed refixed numbers begun) (none : MonthAccepted (monthOf file)) where
   pub run-known : {has : Bool} → has ≡ not (eqb (s .refixed) 0) → {applied : List ℕ} → applied ≡ appliedOf fixed refixed has → RunKnown file s applied numbers begun
-  run-known by e = record { month = C.month-known file s ok (C.all-made is none) by e; none-refuses = none }
+  run-known by e = record { month = C.month-known file s ok (C.all-made is (none .accepts)) by e; none-refuses = none }
 
   pub begins : Beginning file (made .carries)
-  begins = C.beginning file s ok (C.all-made is none)
+  begins = C.beginning file s ok (C.all-made is (none .accepts))

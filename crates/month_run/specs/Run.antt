@@ -9,7 +9,7 @@ use lib.IntN.{ℤ}
 use lib.ListN.{length}
 use Rattle.answer.specs.Said.{said}
 use Rattle.answer.specs.declared.Answer.{Answer}
-use Rattle.month_run_hours.specs.InRun.{distributedInRun, periodisedInRun, differenceInRun, lossInRun}
+use Rattle.month_run.specs.InRun.{distributedInRun, periodisedInRun, differenceInRun, lossInRun}
 use Rattle.rules.specs.Month.{monthOf, fileVerdict}
 use Rattle.rules.specs.MonthFile.{H, P}
 use Rattle.rules.specs.Refusals.{outOfRange, wrongLength, Verdict, unless, andThen, afterwards}

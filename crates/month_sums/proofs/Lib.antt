@@ -1,6 +1,5 @@
-pub mod OneWindow
-pub mod Spans
-pub mod AllWindows
-pub mod Chain
 pub mod Sizes
+pub mod Adding
+pub mod Going
+pub mod Chain
 pub mod Writing

@@ -1,3 +1,3 @@
-pub mod Windows
+pub mod Summing
 pub mod Outcomes
 pub mod Told

@@ -1,5 +1,6 @@
 pub mod Bounds
 pub mod Settling
 pub mod Carrying
-pub mod Afterwards
 pub mod Windows
+pub mod Opening
+pub mod Walking

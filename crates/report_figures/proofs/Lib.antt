@@ -1,3 +1,3 @@
 pub mod OneHour
-pub mod Windows
+pub mod Passing
 pub mod Making

@@ -1,10 +1,12 @@
 -- The checks of a month one after the other: one before the hours refuses, or an hour, or the numbers are the month's.
 use mathlib.Core.List.{List}
-use mathlib.Core.Path.{_≡_, sym, _∙_, ap}
-use Prim.Native.Nat.{ℕ, suc, _-_}
+use mathlib.Core.Path.{_≡_, sym, _∙_, ap, subst}
+use Prim.Native.Nat.{ℕ, suc, _-_, _≤_}
 use native.Mathlib.Nat.{le-refl}
 use native.Mathlib.Omega.{arith}
 use lib.IntN.{ℤ}
+use lib.ListN.{length, take}
+use borrow.Rule.Slice.PartMut.{midOf, putMid}
 use Rattle.answer.specs.Said.{said}
 use Rattle.answer.specs.declared.Answer.the-variants.{Done, Refused}
 use Rattle.answer.specs.declared.Refusal.{Refusal}
@@ -12,6 +14,7 @@ use Rattle.report_distances.specs.declared.Distances.{Distances}
 use Rattle.month_sums.proofs.Chain.{refused-before, hours-decide}
 use Rattle.month_prepare.specs.Checks.{MadeIs}
 use Rattle.month_prepare.specs.declared.Made.{Made}
+use Rattle.month_prepare.proofs.Preparing.{stands, lent-again}
 use Rattle.file_sections.specs.declared.Sections.{Sections}
 use Rattle.file_sections.proofs.AcceptedFile.{hours-are}
 use Rattle.report_figures.specs.Hourly.{HourlyAsked, HourlyIs}
@@ -36,7 +39,7 @@ module _ {m : MonthFile} {made : Made} {fixed refixed numbers begun : List ℕ} 
       record { verdict = refused-before is e; made = λ a. absurd (refused-not-accepted (sym (ap said e) ∙ a)) }
 
   module _ (done : made .answer ≡ Done) {r : Passed} (passed : MonthPassed m r d p) where
-    pub numbers-made : HourlyIs m (record { answer = r .answer; estimated = made .estimated; w = made .carries .w; distances = r .standing .distances }) fixed refixed numbers d p
+    pub numbers-made : HourlyIs m (record { answer = r .answer; estimated = made .estimated; w = made .carries .w; distances = r .distances }) fixed refixed numbers d p
     numbers-made =
         let before = is .made (ap said done) in
         record {
@@ -50,3 +53,12 @@ module _ {m : MonthFile} {made : Made} {fixed refixed numbers begun : List ℕ} 
 pub sums-lent : {file : List ℕ} {s : Sections} {fixed refixed numbers distributed periodised : ℕ} → HourlyAsked file s fixed refixed numbers distributed periodised → SumsLent (monthOf file) distributed periodised
 sums-lent {file} {s} asked =
     record { distributed-size = asked .distributed-size ∙ hours-are file s (asked .accepted); periodised-size = asked .periodised-size ∙ hours-are file s (asked .accepted) }
+
+-- the beginnings that were made, lent again
+module _ {m : MonthFile} {made : Made} {f r c part : List ℕ} (is : MadeIs m made f r c part)
+    (n : ℕ) (lent : List ℕ) {places : ℕ} (size : length lent ≡ places) (enough : n ≤ places) (same : length part ≡ length (midOf 0 (n - 0) lent)) where
+  pub part-enough : n ≤ length (putMid 0 (n - 0) lent part)
+  part-enough = omega (arith, stands n lent part size enough same .size)
+
+  pub as-lent-again : MadeIs m made f r c (take (n - 0) (putMid 0 (n - 0) lent part))
+  as-lent-again = subst (λ (l : List ℕ). MadeIs m made f r c l) (sym (lent-again n lent part size enough same)) is

@@ -1,15 +1,14 @@
 -- One hour of a month passed: its sums are the next ones, and its distances are the smallest or the largest so far where they are.
 use mathlib.Core.List.{List}
 use mathlib.Core.Path.{_≡_, refl, sym, _∙_, ap, ap₂, subst}
-use Prim.Native.Nat.{ℕ, zero, suc, _+_, _*_, _<_}
+use Prim.Native.Nat.{ℕ, zero, suc, _+_, _-_, _*_, _<_}
 use native.Mathlib.Numerals.{add-one}
 use native.Mathlib.Omega.{arith}
 use borrow.Author.Tests.{ne-eqb}
 use lib.Dec.{eqb, lit<}
 use lib.IntN.{ℤ, pos, _-ℤ_, _*ℤ_}
-use lib.ListN.{length}
+use lib.ListN.{length, getD}
 use Rattle.apportion.specs.Filled.{Filled}
-use Rattle.distribute.specs.Good.{Next}
 use Rattle.distribute.specs.declared.Carries.{Carries}
 use Rattle.apportion.proofs.Arrays.{filled-as}
 use Rattle.distribute.proofs.Running.{running-same}
@@ -19,11 +18,13 @@ use Rattle.hour_settled.specs.Column.{column, Column, EachInHour, addable}
 use Rattle.hour_settled.specs.Sums.{Summable}
 use Rattle.hour_settled.proofs.Totals.{summable, sum-is}
 use Rattle.report_figures.specs.Passing.{HourAsked, HourPassed, Measured, PassedTo}
-use Rattle.report_figures.specs.declared.Standing.{Standing}
 use Rattle.file_sections.specs.declared.Sections.{Sections}
 use Rattle.month_walk.specs.Hours.{HourKnown, Carried}
-use Rattle.month_walk.proofs.Bounds.{few-parties, distributed-fits}
-use Rattle.month_walk.proofs.Carrying as C
+use Rattle.month_walk.specs.Walking.{MonthKnown, HourOn}
+use Rattle.month_walk.specs.declared.Walk.{Walk}
+use Rattle.month_walk.proofs.Bounds.{few-parties, distributed-fits, own-at-most}
+use Rattle.month_walk.proofs.Walking.{hour-known, hour-on}
+use Rattle.rules.specs.Limits.{greatestDistributed}
 use Rattle.rules.specs.Demands.{exactShare}
 use Rattle.rules.specs.Flows.{W}
 use Rattle.rules.specs.HoursReport.{allDistributed, distanceAfter, distanceAt, smaller, larger, smallest, largest, smallestDistance, largestDistance}
@@ -35,15 +36,6 @@ use Rattle.rules.proofs.HoursReport.{by-carries, distance-is}
 use Rattle.rules.proofs.Loops.{Filling, fill-next}
 use Rattle.rules.proofs.Month.{Judged, some-share}
 use Rattle.rules.proofs.Sums.{sum-cong}
-
--- what an hour asks, after its residual is taken
-pub column-asked :
-    {x : Standing} {residual : ℕ} {window : List ℕ} {hours k t d p : ℕ}
-    → HourAsked x residual window hours k t d p
-    → {c : Carries}
-    → Next (x .carries) residual c
-    → Column window hours k (c .parties) × EachInHour addable window hours k (c .parties)
-column-asked ask next = rw (next .parties) (ask .column-there, ask .light)
 
 -- The carries of the first hours tell the month's distance after them.
 module _ (m : MonthFile) (j : Judged m) {hours : ℕ} {c : Carries} (a : Carried m hours c) where
@@ -110,37 +102,62 @@ module _ (m : MonthFile) where
     measured-next =
         record { smallest = λ last e. let same : t ≡ last = omega (arith, e) in subst (λ (u : ℕ). Filled (pos 0) (smallestDistance m u) (P m) (r .smallest)) same least; largest = λ last e. let same : t ≡ last = omega (arith, e) in subst (λ (u : ℕ). Filled (pos 0) (largestDistance m u) (P m) (r .largest)) same most }
 
--- ONE HOUR OF THE MONTH
-module _ {file : List ℕ} {s : Sections} {residual : ℕ} {window : List ℕ} {hours k t : ℕ} (h : HourKnown file s residual window hours k t) (light : EachInHour addable window hours k (P (monthOf file))) {x : Standing} {d : List ℤ} {p : List ℕ} (g : PassedTo (monthOf file) t x d p) where
+-- ONE HOUR OF THE MONTH: what a walk that has come past it tells
+module _ {file : List ℕ} {s : Sections} {applied curveNumbers beginnings : List ℕ} (known : MonthKnown file s applied curveNumbers beginnings)
+    {t : ℕ} (b : t < H (monthOf file)) {w : Walk} {window : List ℕ} (on : HourOn (monthOf file) t w window) {x : Distances} {d : List ℤ} {p : List ℕ} (g : PassedTo (monthOf file) t x d p) where
   abbrev m : MonthFile
   m = monthOf file
 
-  module _ {c : Carries} (next : Next (x .carries) residual c) where
-    parties-are : c .parties ≡ P m
-    parties-are = next .parties ∙ g .carried .parties
+  abbrev carried : Carried m (w .t) (w .carries)
+  carried = on .walked .carried
 
-    figures-are : Filled (pos 0) (distributed m t) (P m) (c .figures)
-    figures-are = C.figures-are m (h .judged) (h .hour) (g .carried) (h .residual-is) next
+  abbrev judged : Judged m
+  judged = known .windows .judged
 
-    figures-summable : Summable (c .figures) (c .parties)
-    figures-summable =
-        rw parties-are
-        (summable (distributed m t) figures-are (few-parties m (h .judged)) 2000000001 (lit< tt) (λ i b. distributed-fits m (h .judged) t i (h .hour) b))
+  abbrev h : HourKnown file s (getD applied t 0) window (w .held .hours) (t - w .held .start) t
+  h = hour-known (hour-on known b on)
 
-    all-distributed : sumℤ (c .parties) (atℤ (c .figures)) ≡ allDistributed m t
-    unfolding allDistributed
-    all-distributed = ap (λ (n : ℕ). sumℤ n (atℤ (c .figures))) parties-are ∙ sum-is (distributed m t) figures-are refl
+  figures-summable : Summable (w .carries .figures) (w .carries .parties)
+  figures-summable =
+      rw (carried .parties)
+      (summable (distributed m t) (on .distributed) (few-parties m judged) greatestDistributed (lit< tt) (λ i l. distributed-fits m judged t i (h .hour) l))
 
-    all-periodised : sum (c .parties) (column window hours k) ≡ allPeriodised m t
-    unfolding allPeriodised
-    all-periodised = ap (λ (n : ℕ). sum n (column window hours k)) parties-are ∙ sum-cong (P m) (h .periodised-is)
-
-  pub hour-asked : HourAsked x residual window hours k t (length d) (length p)
+  each-light : EachInHour addable window (w .held .hours) (t - w .held .start) (P m)
   unfolding EachInHour
-  hour-asked =
-      record { ready = C.ready m (h .judged) (h .hour) (g .carried) (h .residual-is); summable = λ c next. figures-summable next; column-there = rw (g .carried .parties) (h .asked); light = rw (g .carried .parties) light; distributed-there = omega (arith, g .distributed .size, h .hour); periodised-there = omega (arith, g .periodised .size, h .hour) }
+  each-light i l = omega (arith, h .periodised-is i l, own-at-most m judged t i l, h .in-limit)
 
-  pub hour-on : {r : Standing} {d′ : List ℤ} {p′ : List ℕ} → HourPassed x residual window hours k t d p r d′ p′ → PassedTo m (t + 1) r d′ p′
-  hour-on {r} {d′} {p′} is =
-      let carried : Carried m (t + 1) (r .carries) = C.carried-next m (h .judged) (h .hour) (g .carried) (h .residual-is) (is .carries) in
-      record { carried = carried; measured = measured-next m (h .judged) (g .measured) carried (is .distances); distributed = subst (λ (o : List ℤ). Filling (allDistributed m) (H m) o (t + 1)) (sym (is .distributed)) (fill-next (g .distributed) (h .hour) (all-distributed (is .carries))); periodised = subst (λ (o : List ℕ). Filling (allPeriodised m) (H m) o (t + 1)) (sym (is .periodised)) (fill-next (g .periodised) (h .hour) (all-periodised (is .carries))) }
+  pub hour-asked : HourAsked w t window (length d) (length p)
+  hour-asked =
+      let column-there : Column window (w .held .hours) (t - w .held .start) (w .carries .parties) = rw (carried .parties) (h .asked) in
+      let light : EachInHour addable window (w .held .hours) (t - w .held .start) (w .carries .parties) = rw (carried .parties) each-light in
+      let there : t < length d = omega (arith, g .distributed .size, h .hour) in
+      record { good = carried .good; begun = on .hour .begun; summable = figures-summable; column-there = column-there; light = light; distributed-there = there; periodised-there = omega (arith, g .periodised .size, h .hour) }
+
+  all-distributed : sumℤ (w .carries .parties) (atℤ (w .carries .figures)) ≡ allDistributed m t
+  unfolding allDistributed
+  all-distributed =
+      ap (λ (n : ℕ). sumℤ n (atℤ (w .carries .figures))) (carried .parties) ∙ sum-is (distributed m t) (on .distributed) refl
+
+  all-periodised : sum (w .carries .parties) (column window (w .held .hours) (t - w .held .start)) ≡ allPeriodised m t
+  unfolding allPeriodised
+  all-periodised =
+      ap (λ (n : ℕ). sum n (column window (w .held .hours) (t - w .held .start))) (carried .parties)
+      ∙ sum-cong (P m) (h .periodised-is)
+
+  pub one-hour-on : {r : Distances} {d′ : List ℤ} {p′ : List ℕ} → HourPassed x w t window d p r d′ p′ → PassedTo m (w .t) r d′ p′
+  one-hour-on {r} {d′} {p′} is = subst (λ (u : ℕ). PassedTo m u r d′ p′) (sym (on .one-on)) next
+    where
+      then-carried : Carried m (t + 1) (w .carries)
+      then-carried = subst (λ (u : ℕ). Carried m u (w .carries)) (on .one-on) carried
+
+      distributed-then : Filling (allDistributed m) (H m) d′ (t + 1)
+      distributed-then =
+          subst (λ (o : List ℤ). Filling (allDistributed m) (H m) o (t + 1)) (sym (is .distributed)) (fill-next (g .distributed) (h .hour) all-distributed)
+
+      periodised-then : Filling (allPeriodised m) (H m) p′ (t + 1)
+      periodised-then =
+          subst (λ (o : List ℕ). Filling (allPeriodised m) (H m) o (t + 1)) (sym (is .periodised)) (fill-next (g .periodised) (h .hour) all-periodised)
+
+      next : PassedTo m (t + 1) r d′ p′
+      next =
+          record { measured = measured-next m judged (g .measured) then-carried (is .distances); distributed = distributed-then; periodised = periodised-then }

@@ -1,74 +1,109 @@
 -- `month_prepare::make` meets its contract: `Making` says what each check leaves. Assumes nothing.
-use Rattle.month_prepare.proofs.Making.{series-refused, startable, curve-asked, all-made}
+use Rattle.month_prepare.proofs.Making.{w-refuses, series-refuse, curve-asked, all-made}
 use borrow.Author.Needs.{needs}
 use Rattle.month_prepare.proofs.make.Statement.{statement}
 use Rattle.month_prepare.proofs.make.Tie as tie
+use Rattle.month_prepare.proofs.make.Reads as reads
+use Rattle.month_prepare.proofs.make.Lts as lts
+use Rattle.month_prepare.proofs.both_series.Reads as both-series-reads
+use Rattle.month_prepare.proofs.curve_and_readings.Reads as curve-and-readings-reads
+use Rattle.month_prepare.proofs.weigh.Reads as weigh-reads
 
-series-requires : tie.Need-series-requires
-series-requires c κs = search needs
+abbrev begins : tie.After-weigh → tie.Start
+begins c = c .before .before .before .before .before .before
 
-enum-known-judged : tie.Need-enum-known-judged
-enum-known-judged c = search needs
+abbrev weighs : tie.After-both-series → tie.After-enum-told
+weighs c = c .before .before .before
+
+abbrev refuses : tie.After-known-told → tie.After-both-series
+refuses c = c .before .before .before .before .before .before .before
+
+abbrev judges : tie.After-known-told2 → tie.After-both-series
+judges c = c .before .before .before .before .before .before .before
+
+abbrev curves : tie.After-curve-and-readings-arg3 → tie.After-known-told2
+curves c = c .before .before .before
+
+-- src/lib.rt:141:9
+weigh-requires : tie.Need-weigh-requires
+weigh-requires c κs = search needs
 
 enum-told : tie.Need-enum-told
 enum-told c = search needs
 
-not-made-requires : tie.Need-not-made-requires
-not-made-requires c κs = search needs
+-- src/lib.rt:145:9
+enum-told-2 : tie.Need-enum-told-2
+enum-told-2 c = search needs
 
+-- src/lib.rt:145:9
+returns : tie.Need-returns
+returns c = w-refuses _ _ (begins (c .before .before .before) .pre .accepted) (c .before .before .before .weigh .ensures) (c .enum-told2 .given .1) _ _ _ _ _
+
+-- src/lib.rt:151:9
+both-series-requires : tie.Need-both-series-requires
+both-series-requires c κs = search needs
+
+-- src/lib.rt:153:25
+enum-known-judged : tie.Need-enum-known-judged
+enum-known-judged c = search needs
+
+-- src/lib.rt:158:25
+enum-known-judged-2 : tie.Need-enum-known-judged-2
+enum-known-judged-2 c = search needs
+
+-- src/lib.rt:160:17
+curve-and-readings-requires : tie.Need-curve-and-readings-requires
+curve-and-readings-requires c κs = curve-asked _ _ (begins (weighs (judges (curves c)) .before .before .before) .pre .accepted) (weighs (judges (curves c)) .before .before .before .weigh .ensures) (weighs (judges (curves c)) .enum-told .given .1) (judges (curves c) .both-series .ensures) (curves c .before .judged2 .given .1) (begins (weighs (judges (curves c)) .before .before .before) .pre .curve-size) (begins (weighs (judges (curves c)) .before .before .before) .pre .beginnings-size)
+
+-- src/lib.rt:130:1
 same-length : tie.Need-same-length
 same-length c = search needs
 
+-- src/lib.rt:130:1
 same-length-2 : tie.Need-same-length-2
 same-length-2 c = search needs
 
+-- src/lib.rt:130:1
+returns-2 : tie.Need-returns-2
+returns-2 c = series-refuse _ _ (begins (weighs (refuses c) .before .before .before) .pre .accepted) (weighs (refuses c) .before .before .before .weigh .ensures) (weighs (refuses c) .enum-told .given .1) (refuses c .both-series .ensures) (c .before .judged .given .1) _ _ _
+
+-- src/lib.rt:130:1
 same-length-3 : tie.Need-same-length-3
 same-length-3 c = search needs
 
-returns : tie.Need-returns
-returns c = series-refused _ _ (c .before .before .before .before .before .before .before .before .before .before .before .before .before .before .before .before .before .before .before .pre .accepted) (c .before .before .before .before .before .before .before .before .before .series .ensures) (c .before .enum-told .given .1) (c .not-made .ensures) _ _
-
-start-requires : tie.Need-start-requires
-start-requires c κs = startable _ _ (c .before .before .before .before .before .before .before .before .before .before .before .before .before .before .before .before .before .before .before .before .pre .accepted) (c .before .before .before .before .before .before .before .before .before .before .series .ensures) (c .before .before .judged .given .1)
-
-curve-and-readings-requires : tie.Need-curve-and-readings-requires
-curve-and-readings-requires c κs = curve-asked _ _ (c .before .before .before .before .before .before .before .before .before .before .before .before .before .before .before .before .before .before .before .before .before .before .before .before .pre .accepted) (c .before .before .before .before .before .before .before .before .before .before .before .before .before .before .series .ensures) (c .before .before .before .before .before .before .judged .given .1) (c .before .before .before .start .ensures) (c .before .before .before .before .before .before .before .before .before .before .before .before .before .before .before .before .before .before .before .before .before .before .before .before .pre .curve-size) (c .before .before .before .before .before .before .before .before .before .before .before .before .before .before .before .before .before .before .before .before .before .before .before .before .pre .beginnings-size)
-
+-- src/lib.rt:130:1
 same-length-4 : tie.Need-same-length-4
 same-length-4 c = search needs
 
+-- src/lib.rt:130:1
 same-length-5 : tie.Need-same-length-5
 same-length-5 c = search needs
 
+-- src/lib.rt:130:1
 same-length-6 : tie.Need-same-length-6
 same-length-6 c = search needs
 
-same-length-7 : tie.Need-same-length-7
-same-length-7 c = search needs
-
-same-length-8 : tie.Need-same-length-8
-same-length-8 c = search needs
-
-returns-2 : tie.Need-returns-2
-returns-2 c = all-made _ _ (c .before .before .before .before .before .before .before .before .before .before .before .before .before .before .before .before .before .before .before .before .before .before .before .before .before .before .before .before .before .pre .accepted) (c .before .before .before .before .before .before .before .before .before .before .before .before .before .before .before .before .before .before .before .series .ensures) (c .before .before .before .before .before .before .before .before .before .before .before .judged .given .1) (c .before .before .before .before .before .before .before .before .start .ensures) _ (c .before .before .before .before .curve-and-readings .ensures)
+-- src/lib.rt:130:1
+returns-3 : tie.Need-returns-3
+returns-3 c = all-made _ _ (begins (weighs (judges (curves (c .before .before .before .before .before))) .before .before .before) .pre .accepted) (weighs (judges (curves (c .before .before .before .before .before))) .before .before .before .weigh .ensures) (weighs (judges (curves (c .before .before .before .before .before))) .enum-told .given .1) (judges (curves (c .before .before .before .before .before)) .both-series .ensures) (curves (c .before .before .before .before .before) .before .judged2 .given .1) _ (c .before .before .before .before .curve-and-readings .ensures)
 
 pub make-spec : {M : Type 1} → statement M
 make-spec =
     tie.close
     (tie.spec
-    series-requires
-    enum-known-judged
+    weigh-requires
     enum-told
-    not-made-requires
+    enum-told-2
+    returns
+    both-series-requires
+    enum-known-judged
+    enum-known-judged-2
+    curve-and-readings-requires
     same-length
     same-length-2
+    returns-2
     same-length-3
-    returns
-    start-requires
-    curve-and-readings-requires
     same-length-4
     same-length-5
     same-length-6
-    same-length-7
-    same-length-8
-    returns-2)
+    returns-3)

@@ -1,67 +1,72 @@
--- `report_figures::all_hours` meets its contract: the places are enough for every month. Assumes nothing.
+-- `report_figures::all_hours` meets its contract: what is made before the hours, and the hours. Assumes nothing.
+use Prim.Native.Nat.{suc, _+_, _≤_}
 use native.Mathlib.Omega.{arith}
+use Rattle.month_prepare.proofs.Preparing.{few-hours}
+use Rattle.report_figures.proofs.Making.{sums-lent, part-enough, as-lent-again}
+use Rattle.rules.specs.Limits.{mostHours}
 use borrow.Author.Needs.{needs}
-use Rattle.month_sums.proofs.Sizes.{places, few-parties, few-hours}
-use Rattle.report_figures.proofs.Making.{sums-lent}
 use Rattle.report_figures.proofs.all_hours.Statement.{statement}
 use Rattle.report_figures.proofs.all_hours.Tie as tie
 
-cast-n : tie.Need-cast-n
-cast-n c = search needs
+abbrev begins : tie.After-make-arg3 → tie.Start
+begins c = c .before .before .before .before .before .before .before .before .before .before
+
+abbrev places : tie.After-make-arg3 → tie.After-beginning-places
+places c = c .before .before .before
+
+abbrev makes : tie.After-beginnings2 → tie.After-make
+makes c = c .before .before .before .before .before .before .before
+
+abbrev backs : tie.After-beginnings3 → tie.After-beginnings2
+backs c = c .before .before .before .before
+
+few : (c : tie.After-make-arg3) → begins c .args .s .heading .hours + 1 ≤ suc mostHours
+few c = omega (arith, few-hours _ _ (begins c .pre .accepted))
 
 cast-hours : tie.Need-cast-hours
 cast-hours c = search needs
 
-party-places-requires : tie.Need-party-places-requires
-party-places-requires c κs = search needs
-
 beginning-places-requires : tie.Need-beginning-places-requires
 beginning-places-requires c κs = search needs
 
-window-places-requires : tie.Need-window-places-requires
-window-places-requires c κs = search needs
+add-make : tie.Need-add-make
+add-make c = search needs
 
-sub-all-hours-in : tie.Need-sub-all-hours-in
-sub-all-hours-in c = search needs
-
-part-shares-start : tie.Need-part-shares-start
-part-shares-start c = search needs
-
-part-shares-end : tie.Need-part-shares-end
-part-shares-end c = omega (arith, places 64 (c .before .before .party-places .ensures), few-parties _ _ (c .before .before .before .before .before .before .before .before .before .before .pre .accepted))
-
-add-all-hours-in : tie.Need-add-all-hours-in
-add-all-hours-in c = search needs
-
-sub-all-hours-in-2 : tie.Need-sub-all-hours-in-2
-sub-all-hours-in-2 c = search needs
+sub-make : tie.Need-sub-make
+sub-make c = search needs
 
 part-beginnings-start : tie.Need-part-beginnings-start
 part-beginnings-start c = search needs
 
 part-beginnings-end : tie.Need-part-beginnings-end
-part-beginnings-end c = omega (arith, places 746 (c .before .before .before .before .before .beginning-places .ensures), few-hours _ _ (c .before .before .before .before .before .before .before .before .before .before .before .before .before .before .pre .accepted))
+part-beginnings-end c = omega (arith, places c .beginning-places .ensures, few c)
 
-sub-all-hours-in-3 : tie.Need-sub-all-hours-in-3
-sub-all-hours-in-3 c = search needs
+make-requires : tie.Need-make-requires
+make-requires c κs = record { accepted = begins (c .before) .pre .accepted; fixed-size = begins (c .before) .pre .fixed-size; refixed-size = begins (c .before) .pre .refixed-size; curve-size = begins (c .before) .pre .curve-size; beginnings-size = search needs }
 
-part-window-start : tie.Need-part-window-start
-part-window-start c = search needs
+add-pass-made : tie.Need-add-pass-made
+add-pass-made c = search needs
 
-part-window-end : tie.Need-part-window-end
-part-window-end c = search needs
+sub-pass-made : tie.Need-sub-pass-made
+sub-pass-made c = search needs
 
-all-hours-in-requires : tie.Need-all-hours-in-requires
-all-hours-in-requires c κs = (record { accepted = c .before .before .before .before .before .before .before .before .before .before .before .before .before .before .before .before .before .before .pre .accepted; shares-size = search needs; fixed-size = c .before .before .before .before .before .before .before .before .before .before .before .before .before .before .before .before .before .before .pre .fixed-size; refixed-size = c .before .before .before .before .before .before .before .before .before .before .before .before .before .before .before .before .before .before .pre .refixed-size; curve-size = c .before .before .before .before .before .before .before .before .before .before .before .before .before .before .before .before .before .before .pre .curve-size; beginnings-size = search needs }, (search needs, sums-lent (c .before .before .before .before .before .before .before .before .before .before .before .before .before .before .before .before .before .before .pre)))
+part-pass-made-start : tie.Need-part-pass-made-start
+part-pass-made-start c = search needs
+
+part-pass-made-end : tie.Need-part-pass-made-end
+part-pass-made-end c = part-enough (makes (backs c) .make .ensures) (begins (makes (backs c) .before .before) .args .s .heading .hours + 1) (places (makes (backs c) .before .before) .beginning-places .result) (places (makes (backs c) .before .before) .beginning-places .ensures) (few (makes (backs c) .before .before)) ((backs c) .beginnings2 .given)
+
+pass-made-requires : tie.Need-pass-made-requires
+pass-made-requires c κs = (begins (makes (backs (c .before .before .before)) .before .before) .pre .accepted, (as-lent-again (makes (backs (c .before .before .before)) .make .ensures) (begins (makes (backs (c .before .before .before)) .before .before) .args .s .heading .hours + 1) (places (makes (backs (c .before .before .before)) .before .before) .beginning-places .result) (places (makes (backs (c .before .before .before)) .before .before) .beginning-places .ensures) (few (makes (backs (c .before .before .before)) .before .before)) ((backs (c .before .before .before)) .beginnings2 .given), sums-lent (begins (makes (backs (c .before .before .before)) .before .before) .pre)))
 
 same-length : tie.Need-same-length
-same-length c = c .before .before .before .before .before .before .before .before .before .before .fixed-wh .given
+same-length c = (backs (c .before .before .before .before .before .before .before)) .before .before .before .before .before .before .fixed-wh .given
 
 same-length-2 : tie.Need-same-length-2
-same-length-2 c = c .before .before .before .before .before .before .before .before .refixed-wh .given
+same-length-2 c = (backs (c .before .before .before .before .before .before .before)) .before .before .before .before .refixed-wh .given
 
 same-length-3 : tie.Need-same-length-3
-same-length-3 c = c .before .before .before .before .before .before .curve .given
+same-length-3 c = (backs (c .before .before .before .before .before .before .before)) .before .before .curve .given
 
 same-length-4 : tie.Need-same-length-4
 same-length-4 c = c .before .before .distributed-wh .given
@@ -70,28 +75,24 @@ same-length-5 : tie.Need-same-length-5
 same-length-5 c = c .before .periodised-wh .given
 
 returns : tie.Need-returns
-returns c = c .before .before .before .before .before .before .before .before .before .before .before .before .all-hours-in .ensures
+returns c = c .before .before .before .pass-made .ensures
 
 pub all-hours-spec : {M : Type 1} → statement M
 all-hours-spec =
     tie.close
     (tie.spec
-    cast-n
     cast-hours
-    party-places-requires
     beginning-places-requires
-    window-places-requires
-    sub-all-hours-in
-    part-shares-start
-    part-shares-end
-    add-all-hours-in
-    sub-all-hours-in-2
+    add-make
+    sub-make
     part-beginnings-start
     part-beginnings-end
-    sub-all-hours-in-3
-    part-window-start
-    part-window-end
-    all-hours-in-requires
+    make-requires
+    add-pass-made
+    sub-pass-made
+    part-pass-made-start
+    part-pass-made-end
+    pass-made-requires
     same-length
     same-length-2
     same-length-3

@@ -1,11 +1,17 @@
--- `report_figures::pass_made` meets its contract: `Making` says what each check leaves. Assumes nothing.
+-- `report_figures::pass_made` meets its contract: refused before the hours, or these are passed. Assumes nothing.
 use mathlib.Core.Path.{refl, ap}
-use borrow.Author.Needs.{needs}
 use Rattle.answer.specs.Said.{said}
 use Rattle.month_sums.proofs.Chain.{month-known, beginning}
 use Rattle.report_figures.proofs.Making.{not-made, numbers-made}
+use borrow.Author.Needs.{needs}
 use Rattle.report_figures.proofs.pass_made.Statement.{statement}
 use Rattle.report_figures.proofs.pass_made.Tie as tie
+
+abbrev begins : tie.After-enum-told → tie.Start
+begins c = c .before .before .before .before .before .before .before .before
+
+abbrev passes : tie.After-applied → tie.After-enum-told
+passes c = c .before .before .before
 
 enum-told : tie.Need-enum-told
 enum-told c = search needs
@@ -17,25 +23,34 @@ none-requires : tie.Need-none-requires
 none-requires c κs = search needs
 
 returns : tie.Need-returns
-returns c = not-made (c .before .before .before .before .before .before .before .before .before .before .pre .1 .0) (c .before .enum-told2 .given .1) _ _ _
+returns c = not-made (c .before .before .before .before .before .before .before .before .before .pre .1 .0) (c .before .enum-told2 .given .1) _ _ _
+
+window-places-requires : tie.Need-window-places-requires
+window-places-requires c κs = search needs
 
 applied-requires : tie.Need-applied-requires
 applied-requires c κs = search needs
 
-pass-windows-requires : tie.Need-pass-windows-requires
-pass-windows-requires c κs = (month-known _ _ (c .before .before .before .before .before .before .before .before .before .before .before .before .before .before .before .pre .0) (c .before .before .before .before .before .before .before .before .before .before .before .before .before .before .before .pre .1 .0 .made (ap said (c .before .before .before .before .before .before .enum-told .given .1))) refl (c .before .before .before .applied .ensures), (beginning _ _ (c .before .before .before .before .before .before .before .before .before .before .before .before .before .before .before .pre .0) (c .before .before .before .before .before .before .before .before .before .before .before .before .before .before .before .pre .1 .0 .made (ap said (c .before .before .before .before .before .before .enum-told .given .1))), (c .before .before .before .before .before .before .before .before .before .before .before .before .before .before .before .pre .1 .1 .0, c .before .before .before .before .before .before .before .before .before .before .before .before .before .before .before .pre .1 .1 .1)))
+sub-pass-hours : tie.Need-sub-pass-hours
+sub-pass-hours c = search needs
+
+part-window-start : tie.Need-part-window-start
+part-window-start c = search needs
+
+part-window-end : tie.Need-part-window-end
+part-window-end c = search needs
+
+pass-hours-requires : tie.Need-pass-hours-requires
+pass-hours-requires c κs = (month-known _ _ (begins (passes (c .before .before .before .before)) .pre .0) (begins (passes (c .before .before .before .before)) .pre .1 .0 .made (ap said (passes (c .before .before .before .before) .enum-told .given .1))) refl ((c .before .before .before .before) .applied .ensures), (beginning _ _ (begins (passes (c .before .before .before .before)) .pre .0) (begins (passes (c .before .before .before .before)) .pre .1 .0 .made (ap said (passes (c .before .before .before .before) .enum-told .given .1))), (search needs, begins (passes (c .before .before .before .before)) .pre .1 .1)))
 
 same-length : tie.Need-same-length
-same-length c = c .before .before .before .before .before .before .window .given
+same-length c = c .before .before .before .distributed-wh .given
 
 same-length-2 : tie.Need-same-length-2
-same-length-2 c = c .before .before .before .before .distributed-wh .given
-
-same-length-3 : tie.Need-same-length-3
-same-length-3 c = c .before .before .before .periodised-wh .given
+same-length-2 c = c .before .before .periodised-wh .given
 
 returns-2 : tie.Need-returns-2
-returns-2 c = numbers-made (c .before .before .before .before .before .before .before .before .before .before .before .before .before .before .before .before .before .before .before .before .before .before .before .pre .1 .0) (c .before .before .before .before .before .before .before .before .before .before .before .before .before .before .enum-told .given .1) (c .before .before .before .before .before .before .before .pass-windows .ensures)
+returns-2 c = numbers-made (begins (passes (c .before .before .before .before .before .before .before .before .before .before)) .pre .1 .0) (passes (c .before .before .before .before .before .before .before .before .before .before) .enum-told .given .1) (c .before .before .before .before .before .pass-hours .ensures)
 
 pub pass-made-spec : {M : Type 1} → statement M
 pass-made-spec =
@@ -45,9 +60,12 @@ pass-made-spec =
     enum-told-2
     none-requires
     returns
+    window-places-requires
     applied-requires
-    pass-windows-requires
+    sub-pass-hours
+    part-window-start
+    part-window-end
+    pass-hours-requires
     same-length
     same-length-2
-    same-length-3
     returns-2)

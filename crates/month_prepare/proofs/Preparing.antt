@@ -1,0 +1,79 @@
+-- The places for what is made: enough for every month, and each part that was lent stands first when it is back.
+use mathlib.Core.List.{List}
+use mathlib.Core.Logic.{⊎-elim}
+use mathlib.Core.Path.{_≡_, _∙_, ap}
+use Prim.Native.Nat.{ℕ, suc, _+_, _-_, _≤_}
+use native.Mathlib.Nat.{sub-zero}
+use borrow.Rule.Slice.PartMut.{midOf, postOf, putMid, mid-len, same-len-mid}
+use native.Mathlib.Omega.{arith}
+use lib.ListN.{length, take}
+use lib.Seq.{take-at}
+use Rattle.file_sections.specs.Walk.{Accepted}
+use Rattle.file_sections.specs.declared.Sections.{Sections}
+use Rattle.file_sections.proofs.AcceptedFile.{month-whole, hours-are, parties-are, refixed-are}
+use Rattle.month_prepare.specs.Checks.{MadeIs, PreparedIs}
+use Rattle.month_prepare.specs.declared.Made.{Made}
+use Rattle.month_prepare.specs.declared.Prepared.{Prepared}
+use Rattle.rules.specs.Limits.{mostHours, mostParties}
+use Rattle.rules.specs.Month.{monthOf}
+use Rattle.rules.specs.MonthFile.{H, P}
+use Rattle.rules.proofs.Whole.{heading-facts}
+
+-- a part that was lent from the first place on is back: it stands first
+pub record Stands (n places : ℕ) (part whole : List ℕ) : Type 0 where
+  pub first : take n whole ≡ part
+  pub size : length whole ≡ places
+
+pub stands : (n : ℕ) (lent part : List ℕ) {places : ℕ} → length lent ≡ places → n ≤ places → length part ≡ length (midOf 0 (n - 0) lent) → Stands n places part (putMid 0 (n - 0) lent part)
+stands n lent part {places} size enough same =
+    let many : length part ≡ n = same ∙ mid-len 0 n lent (omega (arith, size)) ∙ sub-zero n in
+    record { first = take-at part (postOf 0 (n - 0) lent) n many; size = same-len-mid 0 (n - 0) lent part same ∙ size }
+
+-- and is lent again
+pub lent-again : (n : ℕ) (lent part : List ℕ) {places : ℕ} → length lent ≡ places → n ≤ places → length part ≡ length (midOf 0 (n - 0) lent) → take (n - 0) (putMid 0 (n - 0) lent part) ≡ part
+lent-again n lent part size enough same =
+    ap (λ (k : ℕ). take k (putMid 0 (n - 0) lent part)) (sub-zero n) ∙ stands n lent part size enough same .first
+
+module _ (file : List ℕ) (s : Sections) (ok : Accepted file s) where
+  pub few-parties : s .heading .parties ≤ mostParties
+  unfolding P
+  few-parties = omega (arith, parties-are file s ok, heading-facts (monthOf file .heading) (month-whole file s ok .head) .parties .1)
+
+  pub few-hours : s .heading .hours ≤ mostHours
+  unfolding H
+  few-hours = omega (arith, hours-are file s ok, heading-facts (monthOf file .heading) (month-whole file s ok .head) .hours .1)
+
+  pub few-refixed : s .refixed ≤ mostHours
+  few-refixed =
+      ⊎-elim (λ (z : length (monthOf file .refixed) ≡ 0). omega (arith, refixed-are file s ok))
+      (λ (h : length (monthOf file .refixed) ≡ H (monthOf file)). omega (arith, refixed-are file s ok, hours-are file s ok, few-hours))
+      (month-whole file s ok .none-or-all-refixed)
+
+  -- all parts that were lent are back
+  pub prepared :
+      {made : Made} {f r c b fixed refixed curveNumbers begins : List ℕ}
+      → MadeIs (monthOf file) made f r c b
+      → Stands (s .heading .hours) mostHours f fixed
+      → Stands (s .refixed) mostHours r refixed
+      → Stands (s .heading .hours) mostHours c curveNumbers
+      → Stands (s .heading .hours + 1) (suc mostHours) b begins
+      → PreparedIs file s (record { made = made; «fixed_wh» = fixed; «refixed_wh» = refixed; curve = curveNumbers; beginnings = begins })
+  prepared is f r c b =
+      record { fixed-places = f .size; refixed-places = r .size; curve-places = c .size; beginnings-places = b .size; is = rw (f .first, r .first, c .first, b .first) is }
+
+-- the parts of a month's arrays that its hours are walked with
+module _ {file : List ℕ} {s : Sections} (ok : Accepted file s) {r : Prepared} (p : PreparedIs file s r) where
+  pub fixed-enough : s .heading .hours ≤ length (r .«fixed_wh»)
+  fixed-enough = omega (arith, p .fixed-places, few-hours file s ok)
+
+  pub refixed-enough : s .refixed ≤ length (r .«refixed_wh»)
+  refixed-enough = omega (arith, p .refixed-places, few-refixed file s ok)
+
+  pub curve-enough : s .heading .hours ≤ length (r .curve)
+  curve-enough = omega (arith, p .curve-places, few-hours file s ok)
+
+  pub beginnings-enough : s .heading .hours + 1 ≤ length (r .beginnings)
+  beginnings-enough = omega (arith, p .beginnings-places, few-hours file s ok)
+
+  pub as-lent : MadeIs (monthOf file) (r .made) (take (s .heading .hours - 0) (r .«fixed_wh»)) (take (s .refixed - 0) (r .«refixed_wh»)) (take (s .heading .hours - 0) (r .curve)) (take (s .heading .hours + 1 - 0) (r .beginnings))
+  as-lent = rw (sub-zero (s .heading .hours), sub-zero (s .refixed), sub-zero (s .heading .hours + 1)) (p .is)

@@ -1,0 +1,121 @@
+-- `month_prepare::weigh` meets its contract: `Weighing` says what W decides. Assumes nothing.
+use native.Mathlib.Omega.{arith}
+use Rattle.month_prepare.proofs.Preparing.{few-parties}
+use Rattle.month_prepare.proofs.Weighing.{places-enough, read-again, few-shares, w-refused, startable, w-started}
+use borrow.Author.Needs.{needs}
+use Rattle.month_prepare.proofs.weigh.Statement.{statement}
+use Rattle.month_prepare.proofs.weigh.Tie as tie
+use Rattle.month_prepare.proofs.weigh.Reads as reads
+use Rattle.month_prepare.proofs.weigh.Lts as lts
+use Rattle.distribute.proofs.Carries.start.Reads as start-reads
+use Rattle.distribute.proofs.w_in_range.Reads as w-in-range-reads
+use Rattle.month_prepare.proofs.nothing_carried.Reads as nothing-carried-reads
+use Rattle.month_prepare.proofs.party_places.Reads as party-places-reads
+use Rattle.month_series.proofs.shares.Reads as shares-reads
+
+abbrev begins : tie.After-shares2 → tie.Start
+begins c = c .before .before .before .before .before
+
+abbrev lends : tie.After-shares3 → tie.After-party-places
+lends c = c .before .before .before
+
+abbrev fills : tie.After-w-in-range → tie.After-shares3
+fills c = c .before .before .before
+
+cast-n : tie.Need-cast-n
+cast-n c = search needs
+
+-- src/lib.rt:79:22
+party-places-requires : tie.Need-party-places-requires
+party-places-requires c κs = search needs
+
+-- src/lib.rt:80:35
+sub-shares : tie.Need-sub-shares
+sub-shares c = search needs
+
+-- src/lib.rt:80:35
+part-shares-start : tie.Need-part-shares-start
+part-shares-start c = search needs
+
+-- src/lib.rt:80:35
+part-shares-end : tie.Need-part-shares-end
+part-shares-end c = omega (arith, c .party-places .ensures, few-parties _ _ (c .before .before .before .pre))
+
+-- src/lib.rt:80:5
+shares-requires : tie.Need-shares-requires
+shares-requires c κs = search needs
+
+-- src/lib.rt:81:40
+sub-w-in-range : tie.Need-sub-w-in-range
+sub-w-in-range c = search needs
+
+-- src/lib.rt:81:40
+part-w-in-range-start : tie.Need-part-w-in-range-start
+part-w-in-range-start c = search needs
+
+-- src/lib.rt:81:40
+part-w-in-range-end : tie.Need-part-w-in-range-end
+part-w-in-range-end c = places-enough _ _ (begins (c .before .before) .pre) _ _ (lends (c .before) .party-places .ensures) (c .before .shares3 .given) (c .before .before .shares2 .ensures)
+
+-- src/lib.rt:81:9
+w-in-range-requires : tie.Need-w-in-range-requires
+w-in-range-requires c κs = few-shares _ _ (begins (c .before .before .before) .pre) (read-again _ _ (begins (c .before .before .before) .pre) _ _ (lends (c .before .before) .party-places .ensures) (c .before .before .shares3 .given) (c .before .before .before .shares2 .ensures))
+
+enum-told : tie.Need-enum-told
+enum-told c = search needs
+
+-- src/lib.rt:83:13
+enum-told-2 : tie.Need-enum-told-2
+enum-told-2 c = search needs
+
+-- src/lib.rt:83:13
+nothing-carried-requires : tie.Need-nothing-carried-requires
+nothing-carried-requires c κs = search needs
+
+-- src/lib.rt:84:9
+returns : tie.Need-returns
+returns c = w-refused _ _ (begins (fills (c .before .before .before) .before) .pre) (read-again _ _ (begins (fills (c .before .before .before) .before) .pre) _ _ (lends (fills (c .before .before .before)) .party-places .ensures) (fills (c .before .before .before) .shares3 .given) (fills (c .before .before .before) .before .shares2 .ensures)) (c .before .before .before .w-in-range .ensures) (c .before .enum-told2 .given .1) _
+
+-- src/lib.rt:86:34
+sub-start : tie.Need-sub-start
+sub-start c = search needs
+
+-- src/lib.rt:86:34
+part-start-start : tie.Need-part-start-start
+part-start-start c = search needs
+
+-- src/lib.rt:86:34
+part-start-end : tie.Need-part-start-end
+part-start-end c = places-enough _ _ (begins (fills (c .before .before .before) .before) .pre) _ _ (lends (fills (c .before .before .before)) .party-places .ensures) (fills (c .before .before .before) .shares3 .given) (fills (c .before .before .before) .before .shares2 .ensures)
+
+-- src/lib.rt:86:9
+start-requires : tie.Need-start-requires
+start-requires c κs = startable _ _ (begins (fills (c .before .before .before .before) .before) .pre) (read-again _ _ (begins (fills (c .before .before .before .before) .before) .pre) _ _ (lends (fills (c .before .before .before .before)) .party-places .ensures) (fills (c .before .before .before .before) .shares3 .given) (fills (c .before .before .before .before) .before .shares2 .ensures)) (c .before .before .before .before .w-in-range .ensures) (c .before .before .enum-told .given .1)
+
+-- src/lib.rt:74:1
+returns-2 : tie.Need-returns-2
+returns-2 c = w-started _ _ (begins (fills (c .before .before .before .before .before) .before) .pre) (read-again _ _ (begins (fills (c .before .before .before .before .before) .before) .pre) _ _ (lends (fills (c .before .before .before .before .before)) .party-places .ensures) (fills (c .before .before .before .before .before) .shares3 .given) (fills (c .before .before .before .before .before) .before .shares2 .ensures)) (c .before .before .before .before .before .w-in-range .ensures) (c .before .before .before .enum-told .given .1) (c .start .ensures)
+
+pub weigh-spec : {M : Type 1} → statement M
+weigh-spec =
+    tie.close
+    (tie.spec
+    cast-n
+    party-places-requires
+    sub-shares
+    part-shares-start
+    part-shares-end
+    shares-requires
+    sub-w-in-range
+    part-w-in-range-start
+    part-w-in-range-end
+    w-in-range-requires
+    enum-told
+    enum-told-2
+    nothing-carried-requires
+    returns
+    sub-start
+    part-start-start
+    part-start-end
+    start-requires
+    returns-2)

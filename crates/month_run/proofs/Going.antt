@@ -1,0 +1,93 @@
+-- The hours of a run one after the other: where the loop stands, and what a step leaves of it. No hour is refused, since none of the month's is.
+use mathlib.Core.List.{List}
+use mathlib.Core.Path.{_≡_, refl, sym, _∙_, ap, subst}
+use Prim.Native.Nat.{ℕ, _+_, _-_, _*_, _<_, _≤_, zero-le}
+use native.Mathlib.Nat.{le-refl, zero-sub, zero-mul}
+use native.Mathlib.Omega.{arith}
+use lib.IntN.{ℤ}
+use lib.ListN.{length, getD}
+use Rattle.answer.specs.Said.{said}
+use Rattle.answer.specs.declared.Answer.{Answer}
+use Rattle.answer.specs.declared.Answer.the-variants.{Done, Refused}
+use Rattle.distribute.specs.declared.Carries.{Carries}
+use Rattle.file_sections.specs.declared.Sections.{Sections}
+use Rattle.month_run.specs.InRun.{distributedInRun, periodisedInRun, differenceInRun, lossInRun}
+use Rattle.month_run.specs.Running.{RunKnown, RunLent, Running, RunIs}
+use Rattle.month_walk.specs.Walking.{Beginning, Walked, begun, StepAsked, HourOn, SteppedIs, HourAsked, windowPlaces}
+use Rattle.month_walk.specs.declared.Walk.{Walk}
+use Rattle.month_walk.proofs.Walking.{walk-begins, residual-there, few, hour-on}
+use Rattle.month_sums.proofs.Chain.{hours-accepted}
+use Rattle.rules.specs.Limits.{mostHours}
+use Rattle.rules.specs.Month.{monthOf}
+use Rattle.rules.specs.MonthFile.{MonthFile, H, P}
+use Rattle.rules.proofs.Loops.{Filling, fill-start, fill-end}
+use Rattle.rules.proofs.Refusals.{refused-not-accepted}
+
+-- The hours that the walk has come past are written, of those that the run has.
+pub record Going (m : MonthFile) (start hours : ℕ) (window : List ℕ) (w : Walk) (d : List ℤ) (p : List ℕ) (x l : List ℤ) : Type 0 where
+  pub walked : Walked m w window
+  pub bound : w .t ≤ start + hours
+  pub running : Running m start hours (w .t) d p x l
+
+module _ {file : List ℕ} {s : Sections} {applied curveNumbers beginnings : List ℕ} (known : RunKnown file s applied curveNumbers beginnings) {start : ℕ} where
+  abbrev m : MonthFile
+  m = monthOf file
+
+  -- before the first hour nothing is written
+  module _ {c : Carries} (begin : Beginning file c) {window : List ℕ} (size : length window ≡ windowPlaces)
+      {d : List ℤ} {p : List ℕ} {x l : List ℤ} (lent : RunLent m start (length d) (length p) (length x) (length l)) where
+    none-filled : {A : Type 0} (f : ℕ → A) {out : List A} → length out ≡ length l * P m → Filling f (length l * P m) out ((0 - start) * P m)
+    none-filled f {out} e =
+        let nothing : (0 - start) * P m ≡ 0 = ap (λ (k : ℕ). k * P m) (zero-sub start) ∙ zero-mul (P m) in
+        subst (λ (k : ℕ). Filling f (length l * P m) out k) (sym nothing) (fill-start f e)
+
+    none-run : Running m start (length l) 0 d p x l
+    none-run =
+        let losses : Filling (lossInRun m start) (length l) l (0 - start) = rw (zero-sub start) (fill-start (lossInRun m start) refl) in
+        record { distributed = none-filled (distributedInRun m start) (lent .distributed-size); periodised = none-filled (periodisedInRun m start) (lent .periodised-size); differences = none-filled (differenceInRun m start) (lent .differences-size); losses = losses }
+
+    pub goes : Going m start (length l) window (begun c) d p x l
+    goes = record { walked = walk-begins begin size; bound = zero-le; running = none-run }
+
+  -- an hour is left
+  module _ {hours : ℕ} (inside : start + hours ≤ H m) {window : List ℕ} {w : Walk} {d : List ℤ} {p : List ℕ} {x l : List ℤ}
+      (g : Going m start hours window w d p x l) (b : w .t < start + hours) where
+    in-month : w .t < H m
+    in-month = omega (arith, inside)
+
+    pub residual-here : w .t < length applied
+    residual-here = residual-there (known .month) in-month
+
+    pub few-here : w .t < mostHours
+    few-here = few (known .month) in-month
+
+    pub step-asked : StepAsked m w window
+    step-asked = record { walked = g .walked; hour = in-month }
+
+    module _ {r : Walk} {window′ : List ℕ} (is : SteppedIs m (w .t) r window′) where
+      done : (a : Answer) → r .answer ≡ a → r .answer ≡ Done
+      done Done e = e
+      done (Refused v place) e =
+          absurd (refused-not-accepted (sym (ap said e) ∙ is .stopped v place e ∙ hours-accepted m (known .none-refuses .accepts)))
+
+      on : HourOn m (w .t) r window′
+      on = is .on (done (r .answer) refl)
+
+      pub one-on : r .t ≡ w .t + 1
+      one-on = on .one-on
+
+      pub hour-asked : HourAsked file s (w .t) (getD applied (w .t) 0) (r .held) (r .carries .figures) window′
+      hour-asked = hour-on (known .month) in-month on
+
+      pub goes-on : {d′ : List ℤ} {p′ : List ℕ} {x′ l′ : List ℤ} → Running m start hours (w .t + 1) d′ p′ x′ l′ → Going m start hours window′ r d′ p′ x′ l′
+      goes-on {d′} {p′} {x′} {l′} run =
+          let bound : r .t ≤ start + hours = omega (arith, one-on) in
+          let running = subst (λ (t : ℕ). Running m start hours t d′ p′ x′ l′) (sym one-on) run in
+          record { walked = on .walked; bound = bound; running = running }
+
+  -- none is left
+  pub ends : {hours : ℕ} {window : List ℕ} {w : Walk} {d : List ℤ} {p : List ℕ} {x l : List ℤ} → Going m start hours window w d p x l → start + hours ≤ w .t → RunIs m start hours d p x l
+  ends {hours} {window} {w} g b =
+      let e : w .t - start ≡ hours = omega (arith, g .bound) in
+      let all : hours * P m ≤ (w .t - start) * P m = rw e (le-refl (hours * P m)) in
+      record { distributed = fill-end (g .running .distributed) all; periodised = fill-end (g .running .periodised) all; differences = fill-end (g .running .differences) all; losses = fill-end (g .running .losses) (omega (arith, e)) }
