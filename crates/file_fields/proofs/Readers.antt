@@ -1,7 +1,7 @@
 -- The readers of an accepted file's fields: the month that the file is read as has its records at their places (`Places` of the rules), so what is read at a
 -- place is what stands in the month.
 use mathlib.Core.List.{List, []}
-use mathlib.Core.Path.{_≡_, sym, _∙_, ap, subst}
+use mathlib.Core.Path.{_≡_, _∙_, ap, subst}
 use Prim.Native.Nat.{ℕ, _+_, _*_, _≤_, _<_}
 use native.Mathlib.Omega.{arith}
 use lib.IntN.{ℤ, pos}

@@ -1,5 +1,5 @@
 -- The walk through a whole file: what is left of it says what the whole says.
-use mathlib.Core.Bool.{false, cond}
+use mathlib.Core.Bool.{cond}
 use mathlib.Core.List.{List, [], _∷_}
 use mathlib.Core.Path.{_≡_, refl, sym, _∙_, ap, ap₂, subst}
 use Prim.Native.Nat.{ℕ, zero, suc, _+_, _-_, _≤_, _<_, zero-le}
@@ -21,7 +21,7 @@ use Rattle.rules.specs.Limits.{longestFile}
 use Rattle.rules.specs.MonthFile.{MonthFile, nothingYet, risesAfter, recordChecks, isEnd, closed, onward, readOn, readMonth}
 use Rattle.rules.specs.MonthFile as F
 use Rattle.rules.specs.Record as R
-use Rattle.rules.specs.Refusals.{fileFault, accepted, given, refusal, first}
+use Rattle.rules.specs.Refusals.{fileFault, given, refusal, first}
 use Rattle.rules.specs.Words.{within, at}
 
 pub record Walking (file : List ℕ) (w : Walk) (place : ℕ) : Type 0 where

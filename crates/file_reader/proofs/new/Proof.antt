@@ -29,7 +29,7 @@ use denote.Struct.Rest.{own-shut}
 use denote.Triple.Entry.{Vals, onEntry}
 use denote.Triple.Spec.{Meets, tripleOf}
 use denote.Triple.Table.{entered}
-use denote.Triple.Walked.{says, Stays, walkOf, AllGo, Walks, ends-at, walked, walk-meets}
+use denote.Triple.Walked.{says, Stays, walkOf, Walks, ends-at, walked, walk-meets}
 use Rattle.file_reader.specs.declared.Reader.{Reader}
 use Rattle.file_reader.proofs.Held.{D, L, sliceAt, file-stays, place-stays, file-goes, place-goes}
 use Rattle.file_reader.proofs.Reader.Laws as T′
