@@ -22,7 +22,11 @@ use Rattle.text.specs.Text.{Put, atStart}
 use Rattle.text.proofs.Stands.{Stands, stands-at-start, put-stands}
 
 -- a text alone in the first buffer
-line-printed : {text first after rest parties : List ℕ} {n : ℕ} → Put text first 0 after n → n ≤ length first → Prints text (record { first = n; rest = 0; parties = 0 }) after rest parties
+line-printed :
+    {text first after rest parties : List ℕ} {n : ℕ}
+    → Put text first 0 after n
+    → n ≤ length first
+    → Prints text (record { first = n; rest = 0; parties = 0 }) after rest parties
 line-printed put room =
     let stands = put-stands put room in
     record {
@@ -83,7 +87,11 @@ module _ (file first rest parties : List ℕ) {first′ rest′ parties′ : Lis
         rw (le-leb firstRoom (length first) (room .first-room), le-leb restRoom (length rest) (room .rest-room), le-leb partiesRoom (length parties) (room .parties-room))
         (then-accepted (fileVerdict file))
 
-    pub refusal-printed : {r : Refusal} {place n : ℕ} {after : List ℕ} → reported ≡ Refused r place → Put (refusalLine (named r) place) first′ 0 after n → n ≤ length first′
+    pub refusal-printed :
+        {r : Refusal} {place n : ℕ} {after : List ℕ}
+        → reported ≡ Refused r place
+        → Put (refusalLine (named r) place) first′ 0 after n
+        → n ≤ length first′
         → Prints (hoursReport file) (record { first = n; rest = 0; parties = 0 }) after rest′ parties′
     refusal-printed {r} {place} {n} {after} e put fits =
         let told-so : v ≡ refused (named r) place = refusal-tells v (lengthsOf m) (sym (ap told e) ∙ p .answer) in

@@ -4,20 +4,15 @@
 // What is proved of it: it is safe and ends, given that each read and write returns; and the three parts that it makes for printing, one after the other, are the
 // report of the bytes read, for a file that is too long the refusal 1 at 0. That the bytes read are those of standard input, and that the parts are handed over in
 // this order and arrive, no contract can say: those of `libc::read` and `libc::write` speak of the count of one call alone. tests/streams tries it.
-use answer::Refusal;
 use libc::STDERR_FILENO;
 use libc::STDOUT_FILENO;
 use report_text::Reported;
-use standard_input::Input;
-ghost use lib.ListN.{length, take};
+use standard_input::Ending;
+ghost use lib.ListN.{length};
 ghost use mathlib.Core.Path.{_≡_};
-ghost use Prim.Native.Nat.{_≤_};
 ghost use Rattle.hours.specs.Printed.{Prints};
-ghost use Rattle.report_text.specs.Lines.{Roomy};
+ghost use Rattle.report_text.specs.Lines.{Roomy, firstRoom, restRoom, partiesRoom};
 ghost use Rattle.rules.specs.HoursReport.{hoursReport};
-ghost use Rattle.rules.specs.Refusals.{fileFault};
-ghost use Rattle.rules.specs.Statement.{refusalLine};
-ghost use Rattle.text.specs.Text.{longestRefusalLine};
 
 // The most bytes of each part, and of a refusal line.
 const FIRST_ROOM: usize = report_text::FIRST_ROOM;
@@ -37,19 +32,19 @@ struct Parts {
 
 // The buffers for the parts.
 fn first_room() -> [u8; FIRST_ROOM]
-    ensures { λ r. ⌜ 62411 ≡ length r ⌝ }
+    ensures { λ r. ⌜ firstRoom ≡ length r ⌝ }
 {
     [0; FIRST_ROOM]
 }
 
 fn rest_room() -> [u8; REST_ROOM]
-    ensures { λ r. ⌜ 62124 ≡ length r ⌝ }
+    ensures { λ r. ⌜ restRoom ≡ length r ⌝ }
 {
     [0; REST_ROOM]
 }
 
 fn parties_room() -> [u8; PARTIES_ROOM]
-    ensures { λ r. ⌜ 6272 ≡ length r ⌝ }
+    ensures { λ r. ⌜ partiesRoom ≡ length r ⌝ }
 {
     [0; PARTIES_ROOM]
 }
@@ -76,15 +71,6 @@ fn file_text(file: &[u8], first: &mut [u8], rest: &mut [u8], parties: &mut [u8])
             }
         }
     }
-}
-
-// "An empty or too long file is refused before all else, place 0".
-fn too_long_text(out: &mut [u8]) -> usize
-    requires { ⌜ longestRefusalLine ≤ length (now out) ⌝ }
-    ensures within { λ n. ⌜ n ≤ length (now (out .exit)) ⌝ }
-    ensures text { λ n. ⌜ take n (now (out .exit)) ≡ refusalLine fileFault 0 ⌝ }
-{
-    text::put_refusal(Refusal::FileFault, 0, out)
 }
 
 // Says a failure on standard error; where that fails too, there is nowhere left to say it. A program has no exit status: a failure is told here alone, with no
@@ -123,16 +109,18 @@ fn print_file(file: &[u8]) {
 
 fn print_too_long() {
     let mut out = [0u8; REFUSAL_ROOM];
-    let n = too_long_text(&mut out);
+    let n = text::put_too_long(&mut out);
     print(&out[0..n]);
 }
 
 fn main() {
     let mut buffer = io::large_buffer();
     let input = standard_input::read_month(&mut buffer);
-    match input {
-        Input::Whole(n) => print_file(&buffer[0..n]),
-        Input::TooLong => print_too_long(),
-        Input::Failed => complain(b"hours: standard input cannot be read\n"),
+    let filled = input.filled;
+    let ending = input.ending;
+    match ending {
+        Ending::Whole => print_file(&buffer[0..filled]),
+        Ending::TooLong => print_too_long(),
+        Ending::Failed => complain(b"hours: standard input cannot be read\n"),
     }
 }

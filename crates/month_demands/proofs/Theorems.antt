@@ -7,8 +7,8 @@ use Prim.Native.Nat.{ℕ, _<_}
 use native.Mathlib.Nat.{zero-add}
 use lib.IntN.{ℤ, pos}
 use lib.ListN.{length}
-use Rattle.month_demands.specs.Demands.{NoRefusalApplies, RefusalApplies, of-reading, of-the-month, of-the-lent, MonthMeets}
-use Rattle.month_sums.specs.Told.{summaryOf, verdict, told, lentRight, settleVerdict, Promised}
+use Rattle.month_demands.specs.Demands.{Outputs, Kept, placesRight, NoRefusalApplies, RefusalApplies, of-reading, of-the-month, of-the-lent, MonthMeets}
+use Rattle.month_sums.specs.Told.{summaryOf, verdict, told, settleVerdict}
 use Rattle.month_sums.specs.declared.Settlement.{Settlement}
 use Rattle.month_sums.specs.declared.Settlement.the-variants.{Settled, Refused}
 use Rattle.month_sums.specs.declared.Summary.{Summary}
@@ -45,22 +45,24 @@ as-answered accepted s = refl
 as-answered (refused r place) s = refl
 
 -- THE EXACT CONDITIONS of the call's verdict: of what the file is read as, and of the lent outputs.
-module _ (file : List ℕ) (d₀ : List ℤ) (p₀ : List ℕ) (l₀ x₀ a₀ : List ℤ) where
-  abbrev lent : MonthFile → Bool
-  lent m = lentRight (P m) (length d₀) (length p₀) (length l₀) (length x₀) (length a₀)
+module _ (file : List ℕ) (lent : Outputs) where
+  abbrev right : MonthFile → Bool
+  right m = placesRight (P m) lent
 
   abbrev last : MonthFile → Verdict
-  last m = unless (lent m) wrongLength 0
+  last m = unless (right m) wrongLength 0
 
   abbrev verdictFor : Answer MonthFile → Verdict
   verdictFor read = andThen (verdictOn read) (last (monthRead read))
 
-  the-call : settleVerdict file (length d₀) (length p₀) (length l₀) (length x₀) (length a₀) ≡ verdictFor (readMonth file)
+  the-call :
+      settleVerdict file (length (lent .distributed)) (length (lent .periodised)) (length (lent .losses)) (length (lent .differences)) (length (lent .amounts))
+      ≡ verdictFor (readMonth file)
   unfolding settleVerdict callVerdict fileVerdict monthOf
   the-call = refl
 
   -- accepted, then no refusal applies
-  none-applies : (read : Answer MonthFile) → readMonth file ≡ read → verdictFor read ≡ accepted → NoRefusalApplies file d₀ p₀ l₀ x₀ a₀
+  none-applies : (read : Answer MonthFile) → readMonth file ≡ read → verdictFor read ≡ accepted → NoRefusalApplies file lent
   unfolding verdictOn monthVerdict monthRead andThen
   none-applies (given m) is e =
       let both = both-accept (first (monthChecks m)) (last m) e in
@@ -68,30 +70,36 @@ module _ (file : List ℕ) (d₀ : List ℤ) (p₀ : List ℕ) (l₀ x₀ a₀ :
   none-applies (refusal r place) is e = absurd (refused-not-accepted e)
 
   -- and the other way
-  then-accepts : NoRefusalApplies file d₀ p₀ l₀ x₀ a₀ → verdictFor (readMonth file) ≡ accepted
+  then-accepts : NoRefusalApplies file lent → verdictFor (readMonth file) ≡ accepted
   unfolding verdictOn monthVerdict monthRead andThen
   then-accepts h =
       ap verdictFor (h .read)
       ∙ ap₂ (λ (u v : Verdict). andThen u v) (accepted-exactly (monthChecks (h .month)) .1 (h .no-check-refuses))
-      (unless-exactly (lent (h .month)) wrongLength 0 .1 (h .lent-right))
+      (unless-exactly (right (h .month)) wrongLength 0 .1 (h .lent-right))
 
   module _ (r : Refusal) (place : ℕ) where
     -- refused, then that refusal applies: once the file is read by the month's checks, and then by the lengths
-    by-the-lent : (m : MonthFile) → readMonth file ≡ given m → NoneRefuses (monthChecks m) → (right : Bool) → lent m ≡ right → unless right wrongLength 0 ≡ refused r place → RefusalApplies file d₀ p₀ l₀ x₀ a₀ r place
+    by-the-lent :
+        (m : MonthFile)
+        → readMonth file ≡ given m
+        → NoneRefuses (monthChecks m) → (b : Bool)
+        → right m ≡ b
+        → unless b wrongLength 0 ≡ refused r place
+        → RefusalApplies file lent r place
     unfolding unless
-    by-the-lent m is none true b e = absurd (refused-not-accepted (sym e))
-    by-the-lent m is none false b e =
+    by-the-lent m is none true w e = absurd (refused-not-accepted (sym e))
+    by-the-lent m is none false w e =
         let same : r ≡ wrongLength = cc in
         let at-the-start : place ≡ 0 = cc in
-        of-the-lent (record { month = m; read = is; no-check-refuses = none; lent-wrong = b; is-16 = same; at-0 = at-the-start })
+        of-the-lent (record { month = m; read = is; no-check-refuses = none; lent-wrong = w; is-16 = same; at-0 = at-the-start })
 
-    by-the-month : (m : MonthFile) → readMonth file ≡ given m → (v : Verdict) → first (monthChecks m) ≡ v → andThen v (last m) ≡ refused r place → RefusalApplies file d₀ p₀ l₀ x₀ a₀ r place
+    by-the-month : (m : MonthFile) → readMonth file ≡ given m → (v : Verdict) → first (monthChecks m) ≡ v → andThen v (last m) ≡ refused r place → RefusalApplies file lent r place
     unfolding andThen
-    by-the-month m is accepted f e = by-the-lent m is (accepted-exactly (monthChecks m) .0 f) (lent m) refl e
+    by-the-month m is accepted f e = by-the-lent m is (accepted-exactly (monthChecks m) .0 f) (right m) refl e
     by-the-month m is (refused s q) f e =
         of-the-month (record { month = m; read = is; first-refuses = refused-exactly (monthChecks m) r place .0 (f ∙ e) })
 
-    it-applies : (read : Answer MonthFile) → readMonth file ≡ read → verdictFor read ≡ refused r place → RefusalApplies file d₀ p₀ l₀ x₀ a₀ r place
+    it-applies : (read : Answer MonthFile) → readMonth file ≡ read → verdictFor read ≡ refused r place → RefusalApplies file lent r place
     unfolding verdictOn monthVerdict monthRead andThen
     it-applies (given m) is e = by-the-month m is (first (monthChecks m)) refl e
     it-applies (refusal s q) is e =
@@ -99,14 +107,14 @@ module _ (file : List ℕ) (d₀ : List ℤ) (p₀ : List ℕ) (l₀ x₀ a₀ :
         of-reading (is ∙ same)
 
     -- and the other way
-    then-refuses : RefusalApplies file d₀ p₀ l₀ x₀ a₀ r place → verdictFor (readMonth file) ≡ refused r place
+    then-refuses : RefusalApplies file lent r place → verdictFor (readMonth file) ≡ refused r place
     unfolding verdictOn monthVerdict monthRead andThen unless
     then-refuses (of-reading e) = ap verdictFor e
     then-refuses (of-the-month h) =
         ap verdictFor (h .read) ∙ ap (λ (u : Verdict). andThen u (last (h .month))) (refused-exactly (monthChecks (h .month)) r place .1 (h .first-refuses))
     then-refuses (of-the-lent h) =
         ap verdictFor (h .read)
-        ∙ ap₂ (λ (u : Verdict) (right : Bool). andThen u (unless right wrongLength 0)) (accepted-exactly (monthChecks (h .month)) .1 (h .no-check-refuses)) (h .lent-wrong)
+        ∙ ap₂ (λ (u : Verdict) (b : Bool). andThen u (unless b wrongLength 0)) (accepted-exactly (monthChecks (h .month)) .1 (h .no-check-refuses)) (h .lent-wrong)
         ∙ ap₂ refused (sym (h .is-16)) (sym (h .at-0))
 
 -- A list that holds the figures of a column: each figure, and their sum.
@@ -149,31 +157,31 @@ since-first m i =
     sumℤ-cong (H m) (λ t b. ap (λ (k : ℕ). distributedFigure (P m) (shareOf m) (appliedWh m) k i) (sym (zero-add t)))
 
 -- THE CALL ON A WHOLE FILE: of any answer r, and any contents of the lent outputs, that meet its promise.
-module _ {file : List ℕ} {r : Settlement} {d₀ : List ℤ} {p₀ : List ℕ} {l₀ x₀ a₀ : List ℤ} {d : List ℤ} {p : List ℕ} {l x a : List ℤ} (is : Promised file r d₀ p₀ l₀ x₀ a₀ d p l x a) where
-  its-verdict : verdict r ≡ verdictFor file d₀ p₀ l₀ x₀ a₀ (readMonth file)
+module _ {file : List ℕ} {r : Settlement} (lent held : Outputs) (is : Kept file r lent held) where
+  its-verdict : verdict r ≡ verdictFor file lent (readMonth file)
   its-verdict =
       sym (as-told r) ∙ ap verdictTold (is .answer) ∙ as-answered _ (summaryOf (monthOf file))
-      ∙ the-call file d₀ p₀ l₀ x₀ a₀
+      ∙ the-call file lent
 
   -- "A month is accepted exactly when no refusal there applies."
-  pub accepted-exactly-when : (verdict r ≡ accepted) ↔ NoRefusalApplies file d₀ p₀ l₀ x₀ a₀
+  pub accepted-exactly-when : (verdict r ≡ accepted) ↔ NoRefusalApplies file lent
   accepted-exactly-when = (
-    λ e. none-applies file d₀ p₀ l₀ x₀ a₀ (readMonth file) refl (sym its-verdict ∙ e),
-    λ h. its-verdict ∙ then-accepts file d₀ p₀ l₀ x₀ a₀ h,
+    λ e. none-applies file lent (readMonth file) refl (sym its-verdict ∙ e),
+    λ h. its-verdict ∙ then-accepts file lent h,
   )
 
   -- "A refusal returns its number and a place": exactly when it is the one that applies
-  pub refused-exactly-when : (why : Refusal) (place : ℕ) → (verdict r ≡ refused why place) ↔ RefusalApplies file d₀ p₀ l₀ x₀ a₀ why place
+  pub refused-exactly-when : (why : Refusal) (place : ℕ) → (verdict r ≡ refused why place) ↔ RefusalApplies file lent why place
   refused-exactly-when why place = (
-    λ e. it-applies file d₀ p₀ l₀ x₀ a₀ why place (readMonth file) refl (sym its-verdict ∙ e),
-    λ h. its-verdict ∙ then-refuses file d₀ p₀ l₀ x₀ a₀ why place h,
+    λ e. it-applies file lent why place (readMonth file) refl (sym its-verdict ∙ e),
+    λ h. its-verdict ∙ then-refuses file lent why place h,
   )
 
   module _ (ok : verdict r ≡ accepted) where
     abbrev m : MonthFile
     m = monthOf file
 
-    none : NoRefusalApplies file d₀ p₀ l₀ x₀ a₀
+    none : NoRefusalApplies file lent
     none = accepted-exactly-when .0 ok
 
     its-month : m ≡ none .month
@@ -188,23 +196,46 @@ module _ {file : List ℕ} {r : Settlement} {d₀ : List ℤ} {p₀ : List ℕ} 
         accepted-is-judged m (what-is-read-is-whole file read-as)
         (ap monthVerdict its-month ∙ accepted-exactly (monthChecks (none .month)) .1 (none .no-check-refuses))
 
-    holds-d : d ≡ figures (P m) (monthDistributed m)
-    holds-d = now-held d₀ ok (is .distributed)
+    holds-distributed : held .distributed ≡ figures (P m) (monthDistributed m)
+    holds-distributed = now-held (lent .distributed) ok (is .distributed)
 
-    holds-p : p ≡ figures (P m) (monthPeriodised m)
-    holds-p = now-held p₀ ok (is .periodised)
+    holds-periodised : held .periodised ≡ figures (P m) (monthPeriodised m)
+    holds-periodised = now-held (lent .periodised) ok (is .periodised)
 
-    holds-l : l ≡ figures (P m) (monthLoss m)
-    holds-l = now-held l₀ ok (is .losses)
+    holds-losses : held .losses ≡ figures (P m) (monthLoss m)
+    holds-losses = now-held (lent .losses) ok (is .losses)
 
-    holds-x : x ≡ figures (P m) (monthDifference m)
-    holds-x = now-held x₀ ok (is .differences)
+    holds-differences : held .differences ≡ figures (P m) (monthDifference m)
+    holds-differences = now-held (lent .differences) ok (is .differences)
 
-    holds-a : a ≡ figures (P m) (monthAmount m)
-    holds-a = now-held a₀ ok (is .amounts)
+    holds-amounts : held .amounts ≡ figures (P m) (monthAmount m)
+    holds-amounts = now-held (lent .amounts) ok (is .amounts)
 
     -- DEMAND 3 AND THE SUMS OF EVERY ACCEPTED FILE
-    pub the-month-meets : MonthMeets file (monthOf file) d p l x a
+    pub the-month-meets : MonthMeets file (monthOf file) held
     unfolding appliedWh monthDistributed monthPeriodised monthLoss monthDifference monthAmount
     the-month-meets =
-        record { read = read-as; sizes = (as-many (P m) (monthDistributed m) holds-d, as-many (P m) (monthPeriodised m) holds-p, as-many (P m) (monthLoss m) holds-l, as-many (P m) (monthDifference m) holds-x, as-many (P m) (monthAmount m) holds-a); no-hour-missing = λ t b. (fixed-hours-have m judged t b .not-missing, every-hour-has-its-figure m judged t b .not-missing); shares-accepted = W-in-range m judged; applied-within-limits = λ t b. (every-hour-has-its-figure m judged t b .residual-is, every-hour-has-its-figure m judged t b .at-most); demand-3 = demand-3-of-the-month m judged; distributed-since-first = λ i b. signed-at (P m) (monthDistributed m) holds-d i b ∙ since-first m i; distributed-sums = signed-at (P m) (monthDistributed m) holds-d; periodised-sums = unsigned-at (P m) (monthPeriodised m) holds-p; loss-sums = signed-at (P m) (monthLoss m) holds-l; difference-sums = signed-at (P m) (monthDifference m) holds-x; amount-sums = signed-at (P m) (monthAmount m) holds-a; hour-differences = λ t b. hour-differences-add-up m judged t; total-distributed = signed-column (P m) (monthDistributed m) holds-d ∙ all-distributed m judged; total-difference = signed-column (P m) (monthDifference m) holds-x ∙ all-differences m judged; total-amount = signed-column (P m) (monthAmount m) holds-a ∙ all-amounts m judged; total-periodised = unsigned-column (P m) (monthPeriodised m) holds-p ∙ all-periodised m; total-loss = signed-column (P m) (monthLoss m) holds-l ∙ all-losses m judged }
+        record {
+          read = read-as;
+          distributed-size = as-many (P m) (monthDistributed m) holds-distributed;
+          periodised-size = as-many (P m) (monthPeriodised m) holds-periodised;
+          losses-size = as-many (P m) (monthLoss m) holds-losses;
+          differences-size = as-many (P m) (monthDifference m) holds-differences;
+          amounts-size = as-many (P m) (monthAmount m) holds-amounts;
+          no-hour-missing = λ t b. (fixed-hours-have m judged t b .not-missing, every-hour-has-its-figure m judged t b .not-missing);
+          shares-accepted = W-in-range m judged;
+          applied-within-limits = λ t b. (every-hour-has-its-figure m judged t b .residual-is, every-hour-has-its-figure m judged t b .at-most);
+          demand-3 = demand-3-of-the-month m judged;
+          distributed-since-first = λ i b. signed-at (P m) (monthDistributed m) holds-distributed i b ∙ since-first m i;
+          distributed-sums = signed-at (P m) (monthDistributed m) holds-distributed;
+          periodised-sums = unsigned-at (P m) (monthPeriodised m) holds-periodised;
+          loss-sums = signed-at (P m) (monthLoss m) holds-losses;
+          difference-sums = signed-at (P m) (monthDifference m) holds-differences;
+          amount-sums = signed-at (P m) (monthAmount m) holds-amounts;
+          hour-differences = λ t b. hour-differences-add-up m judged t;
+          total-distributed = signed-column (P m) (monthDistributed m) holds-distributed ∙ all-distributed m judged;
+          total-difference = signed-column (P m) (monthDifference m) holds-differences ∙ all-differences m judged;
+          total-amount = signed-column (P m) (monthAmount m) holds-amounts ∙ all-amounts m judged;
+          total-periodised = unsigned-column (P m) (monthPeriodised m) holds-periodised ∙ all-periodised m;
+          total-loss = signed-column (P m) (monthLoss m) holds-losses ∙ all-losses m judged;
+        }

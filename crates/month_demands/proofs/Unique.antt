@@ -8,8 +8,9 @@ use lib.IntN.{ℤ, pos}
 use Rattle.answer.specs.Said.{named, said}
 use Rattle.answer.proofs.Said.{named-once, said-once}
 use Rattle.apportion.proofs.Arrays.{filled-once}
+use Rattle.month_demands.specs.Demands.{Outputs, Kept}
 use Rattle.month_sums.specs.Outcomes.{OutcomeIs}
-use Rattle.month_sums.specs.Told.{verdict, told, Promised}
+use Rattle.month_sums.specs.Told.{verdict, told}
 use Rattle.month_sums.specs.Summing.{SumsAre}
 use Rattle.month_sums.specs.declared.Outcome.{Outcome}
 use Rattle.month_sums.specs.declared.Settlement.{Settlement}
@@ -31,25 +32,45 @@ told-once (Refused r p) (Refused s q) e =
     ap₂ Refused (named-once r s refusals) places
 
 -- what a lent output holds is settled by the answer
-one-content : {A : Type 0} {r s : Settlement} (new old : List A) {held held′ : List A} → r ≡ s → held ≡ afterwards (verdict r) new old → held′ ≡ afterwards (verdict s) new old → held ≡ held′
+one-content :
+    {A : Type 0} {r s : Settlement} (new old : List A) {held held′ : List A}
+    → r ≡ s
+    → held ≡ afterwards (verdict r) new old
+    → held′ ≡ afterwards (verdict s) new old
+    → held ≡ held′
 one-content new old same p q = p ∙ ap (λ (u : Settlement). afterwards (verdict u) new old) same ∙ sym q
 
 -- `settle`
 pub settle-unique :
-    {file : List ℕ} {r r′ : Settlement} {d₀ : List ℤ} {p₀ : List ℕ} {l₀ x₀ a₀ : List ℤ} {d d′ : List ℤ} {p p′ : List ℕ} {l l′ x x′ a a′ : List ℤ}
-    → Promised file r d₀ p₀ l₀ x₀ a₀ d p l x a
-    → Promised file r′ d₀ p₀ l₀ x₀ a₀ d′ p′ l′ x′ a′
-    → (r ≡ r′) × (d ≡ d′) × (p ≡ p′) × (l ≡ l′) × (x ≡ x′) × (a ≡ a′)
-settle-unique {file} {r} {r′} {d₀} {p₀} {l₀} {x₀} {a₀} one other =
-    let m : MonthFile = monthOf file in
-    let same : r ≡ r′ = told-once r r′ (one .answer ∙ sym (other .answer)) in (
-      same,
-      one-content (figures (P m) (monthDistributed m)) d₀ same (one .distributed) (other .distributed),
-      one-content (figures (P m) (monthPeriodised m)) p₀ same (one .periodised) (other .periodised),
-      one-content (figures (P m) (monthLoss m)) l₀ same (one .losses) (other .losses),
-      one-content (figures (P m) (monthDifference m)) x₀ same (one .differences) (other .differences),
-      one-content (figures (P m) (monthAmount m)) a₀ same (one .amounts) (other .amounts),
-    )
+    {file : List ℕ} {r r′ : Settlement} (lent held held′ : Outputs)
+    → Kept file r lent held
+    → Kept file r′ lent held′
+    → (r ≡ r′) × (held ≡ held′)
+settle-unique {file} {r} {r′} lent held held′ one other = (
+  same,
+  λ i. record { distributed = distributed i; periodised = periodised i; losses = losses i; differences = differences i; amounts = amounts i },
+)
+  where
+    m : MonthFile
+    m = monthOf file
+
+    same : r ≡ r′
+    same = told-once r r′ (one .answer ∙ sym (other .answer))
+
+    distributed : held .distributed ≡ held′ .distributed
+    distributed = one-content (figures (P m) (monthDistributed m)) (lent .distributed) same (one .distributed) (other .distributed)
+
+    periodised : held .periodised ≡ held′ .periodised
+    periodised = one-content (figures (P m) (monthPeriodised m)) (lent .periodised) same (one .periodised) (other .periodised)
+
+    losses : held .losses ≡ held′ .losses
+    losses = one-content (figures (P m) (monthLoss m)) (lent .losses) same (one .losses) (other .losses)
+
+    differences : held .differences ≡ held′ .differences
+    differences = one-content (figures (P m) (monthDifference m)) (lent .differences) same (one .differences) (other .differences)
+
+    amounts : held .amounts ≡ held′ .amounts
+    amounts = one-content (figures (P m) (monthAmount m)) (lent .amounts) same (one .amounts) (other .amounts)
 
 -- two sums of one month are one
 sums-once : (m : MonthFile) (x y : Sums) → SumsAre m x → SumsAre m y → x ≡ y

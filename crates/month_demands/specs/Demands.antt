@@ -1,12 +1,13 @@
 -- The demands (00) of the call on a whole file, over the file's bytes: when it accepts and when it refuses (demand 2), and what holds of an accepted month and
 -- of the lent outputs (demand 3, and the sums that must come out). That they hold of every answer that meets the call's promise is proved in proofs/Theorems.
-use mathlib.Core.Bool.{true, false}
+use mathlib.Core.Bool.{Bool, true, false}
 use mathlib.Core.List.{List}
 use mathlib.Core.Path.{_≡_}
 use Prim.Native.Nat.{ℕ, _≤_, _<_}
 use lib.IntN.{ℤ, pos}
 use lib.ListN.{length}
-use Rattle.month_sums.specs.Told.{lentRight}
+use Rattle.month_sums.specs.Told.{lentRight, Promised}
+use Rattle.month_sums.specs.declared.Settlement.{Settlement}
 use Rattle.rules.specs.Accepted.{NoneRefuses, FirstRefuses}
 use Rattle.rules.specs.Demands.{sumSinceFirst, Demand3}
 use Rattle.rules.specs.Flows.{residual}
@@ -18,14 +19,32 @@ use Rattle.rules.specs.Refusals.{Refusal, wrongLength, given, refusal}
 use Rattle.rules.specs.Services.{atℤ}
 use Rattle.rules.specs.Words.{sum, sumℤ, at}
 
--- The lent outputs stand in the order of the call: distributed, periodised, losses, differences, amounts; d₀, p₀, l₀, x₀ and a₀ are what they hold before it.
+-- the lent outputs of the call, by their names: what they hold before it, or once it has answered
+pub record Outputs : Type 0 where
+  pub distributed : List ℤ
+  pub periodised : List ℕ
+  pub losses : List ℤ
+  pub differences : List ℤ
+  pub amounts : List ℤ
+
+-- the promise of the call (`month_sums`), of such outputs before and after it
+abbrev pub Kept : List ℕ → Settlement → Outputs → Outputs → Type 0
+Kept file r lent held =
+    Promised file r (lent .distributed) (lent .periodised) (lent .losses) (lent .differences) (lent .amounts)
+    (held .distributed) (held .periodised) (held .losses) (held .differences) (held .amounts)
+
+-- every lent output has a place for each party
+abbrev pub placesRight : ℕ → Outputs → Bool
+placesRight parties lent =
+    lentRight parties (length (lent .distributed)) (length (lent .periodised)) (length (lent .losses))
+    (length (lent .differences)) (length (lent .amounts))
 
 -- "A month is accepted exactly when no refusal there applies.": no refusal of reading, none of the month's checks, and not 16
-pub record NoRefusalApplies (file : List ℕ) (d₀ : List ℤ) (p₀ : List ℕ) (l₀ x₀ a₀ : List ℤ) : Type 0 where
+pub record NoRefusalApplies (file : List ℕ) (lent : Outputs) : Type 0 where
   pub month : MonthFile
   pub read : readMonth file ≡ given month
   pub no-check-refuses : NoneRefuses (monthChecks month)
-  pub lent-right : lentRight (P month) (length d₀) (length p₀) (length l₀) (length x₀) (length a₀) ≡ true
+  pub lent-right : placesRight (P month) lent ≡ true
 
 -- "The file is read first", "Then 6; then the fixed hours ..": the file is read, and of the month's checks in their order this is the first that refuses
 pub record MonthRefuses (file : List ℕ) (r : Refusal) (place : ℕ) : Type 0 where
@@ -34,25 +53,29 @@ pub record MonthRefuses (file : List ℕ) (r : Refusal) (place : ℕ) : Type 0 w
   pub first-refuses : FirstRefuses (monthChecks month) r place
 
 -- "last, for a call on a whole month, 16", at place 0: the file is read, no check of the month refuses, and some lent output has not a place for each party
-pub record LentWrong (file : List ℕ) (d₀ : List ℤ) (p₀ : List ℕ) (l₀ x₀ a₀ : List ℤ) (r : Refusal) (place : ℕ) : Type 0 where
+pub record LentWrong (file : List ℕ) (lent : Outputs) (r : Refusal) (place : ℕ) : Type 0 where
   pub month : MonthFile
   pub read : readMonth file ≡ given month
   pub no-check-refuses : NoneRefuses (monthChecks month)
-  pub lent-wrong : lentRight (P month) (length d₀) (length p₀) (length l₀) (length x₀) (length a₀) ≡ false
+  pub lent-wrong : placesRight (P month) lent ≡ false
   pub is-16 : r ≡ wrongLength
   pub at-0 : place ≡ 0
 
 -- the refusal that applies, with its place: one of reading, else one of the month, else 16
-pub data RefusalApplies (file : List ℕ) (d₀ : List ℤ) (p₀ : List ℕ) (l₀ x₀ a₀ : List ℤ) (r : Refusal) (place : ℕ) : Type 0 where
-  of-reading : readMonth file ≡ refusal r place → RefusalApplies file d₀ p₀ l₀ x₀ a₀ r place
-  of-the-month : MonthRefuses file r place → RefusalApplies file d₀ p₀ l₀ x₀ a₀ r place
-  of-the-lent : LentWrong file d₀ p₀ l₀ x₀ a₀ r place → RefusalApplies file d₀ p₀ l₀ x₀ a₀ r place
+pub data RefusalApplies (file : List ℕ) (lent : Outputs) (r : Refusal) (place : ℕ) : Type 0 where
+  of-reading : readMonth file ≡ refusal r place → RefusalApplies file lent r place
+  of-the-month : MonthRefuses file r place → RefusalApplies file lent r place
+  of-the-lent : LentWrong file lent r place → RefusalApplies file lent r place
 
--- WHAT HOLDS OF AN ACCEPTED MONTH: m is the month that the file is read as; d, p, l, x and a are what the lent outputs hold once the call has answered
-pub record MonthMeets (file : List ℕ) (m : MonthFile) (d : List ℤ) (p : List ℕ) (l x a : List ℤ) : Type 0 where
+-- WHAT HOLDS OF AN ACCEPTED MONTH: m is the month that the file is read as; `held` is what the lent outputs hold once the call has answered
+pub record MonthMeets (file : List ℕ) (m : MonthFile) (held : Outputs) : Type 0 where
   pub read : readMonth file ≡ given m
   -- "one line per party in order": a figure for each party in every lent output, and nothing more
-  pub sizes : (length d ≡ P m) × (length p ≡ P m) × (length l ≡ P m) × (length x ≡ P m) × (length a ≡ P m)
+  pub distributed-size : length (held .distributed) ≡ P m
+  pub periodised-size : length (held .periodised) ≡ P m
+  pub losses-size : length (held .losses) ≡ P m
+  pub differences-size : length (held .differences) ≡ P m
+  pub amounts-size : length (held .amounts) ≡ P m
   -- "A missing hour is refused and is never taken for zero.": no hour of the fixed or of the applied series has status 0
   pub no-hour-missing : (t : ℕ) → t < H m → (1 ≤ flowsAt (m .fixed) t .status) × (1 ≤ appliedFlows m t .status)
   -- "For a month whose load shares are accepted ..": W lies within its limits
@@ -64,26 +87,26 @@ pub record MonthMeets (file : List ℕ) (m : MonthFile) (d : List ℤ) (p : List
   -- A party with a larger load share never has the smaller sum since the first hour."
   pub demand-3 : Demand3 (P m) (shareOf m) (appliedWh m)
   -- "each party's sum of these since the month's first hour": after the last hour it is what the distributed output holds
-  pub distributed-since-first : (i : ℕ) → i < P m → atℤ d i ≡ sumSinceFirst (P m) (shareOf m) (appliedWh m) (H m) i
+  pub distributed-since-first : (i : ℕ) → i < P m → atℤ (held .distributed) i ≡ sumSinceFirst (P m) (shareOf m) (appliedWh m) (H m) i
   -- "distributed .. (month sums in Wh)": the sum of the hours' figures, each of which is one of those in demand 3
-  pub distributed-sums : (i : ℕ) → i < P m → atℤ d i ≡ sumℤ (H m) (λ t. distributed m t i)
+  pub distributed-sums : (i : ℕ) → i < P m → atℤ (held .distributed) i ≡ sumℤ (H m) (λ t. distributed m t i)
   -- "periodised .. (month sums in Wh)"
-  pub periodised-sums : (i : ℕ) → i < P m → at p i ≡ sum (H m) (λ t. periodised m t i)
+  pub periodised-sums : (i : ℕ) → i < P m → at (held .periodised) i ≡ sum (H m) (λ t. periodised m t i)
   -- "loss .. (month sums in Wh)", "Loss is 0 for all but the carrier."
-  pub loss-sums : (i : ℕ) → i < P m → atℤ l i ≡ sumℤ (H m) (λ t. lossOf (m .heading .carrier) (loss m t) i)
+  pub loss-sums : (i : ℕ) → i < P m → atℤ (held .losses) i ≡ sumℤ (H m) (λ t. lossOf (m .heading .carrier) (loss m t) i)
   -- "difference (month sums in Wh)"
-  pub difference-sums : (i : ℕ) → i < P m → atℤ x i ≡ sumℤ (H m) (λ t. difference m t i)
+  pub difference-sums : (i : ℕ) → i < P m → atℤ (held .differences) i ≡ sumℤ (H m) (λ t. difference m t i)
   -- "the month's amount is the exact sum", in millionths of an øre
-  pub amount-sums : (i : ℕ) → i < P m → atℤ a i ≡ sumℤ (H m) (λ t. amount m t i)
+  pub amount-sums : (i : ℕ) → i < P m → atℤ (held .amounts) i ≡ sumℤ (H m) (λ t. amount m t i)
   -- "The differences of each hour add up to 0"
   pub hour-differences : (t : ℕ) → t < H m → sumℤ (P m) (difference m t) ≡ pos 0
   -- "the month's columns add up": "total distributed is the sum of the applied residuals"
-  pub total-distributed : sumℤ (P m) (atℤ d) ≡ pos (sum (H m) (appliedWh m))
+  pub total-distributed : sumℤ (P m) (atℤ (held .distributed)) ≡ pos (sum (H m) (appliedWh m))
   -- "total difference is 0"
-  pub total-difference : sumℤ (P m) (atℤ x) ≡ pos 0
+  pub total-difference : sumℤ (P m) (atℤ (held .differences)) ≡ pos 0
   -- the exact amounts too add up to 0: an hour's differences have one price
-  pub total-amount : sumℤ (P m) (atℤ a) ≡ pos 0
+  pub total-amount : sumℤ (P m) (atℤ (held .amounts)) ≡ pos 0
   -- total periodised is the sum of "all periodised consumption" of each hour
-  pub total-periodised : sum (P m) (at p) ≡ sum (H m) (allPeriodised m)
+  pub total-periodised : sum (P m) (at (held .periodised)) ≡ sum (H m) (allPeriodised m)
   -- total loss is the sum of the hours' grid losses, of either sign
-  pub total-loss : sumℤ (P m) (atℤ l) ≡ sumℤ (H m) (loss m)
+  pub total-loss : sumℤ (P m) (atℤ (held .losses)) ≡ sumℤ (H m) (loss m)

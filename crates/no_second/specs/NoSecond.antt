@@ -15,7 +15,7 @@ use Rattle.gln.specs.Gln.{glnAnswer, glnPart}
 use Rattle.gln.specs.declared.Gln.{Gln}
 use Rattle.report_text.specs.Reporting as Report
 use Rattle.report_text.specs.declared.Reported.{Reported}
-use Rattle.month_sums.specs.Told as Month
+use Rattle.month_demands.specs.Demands as Month
 use Rattle.month_sums.specs.declared.Settlement.{Settlement}
 use Rattle.file_sections.specs.Walk as File
 use Rattle.file_sections.specs.declared.MonthRead.{MonthRead}
@@ -36,7 +36,8 @@ use Rattle.rules.specs.MonthFile.{readMonth}
 use Rattle.rules.specs.Reconciliation.{lossOf, invoiceOre}
 use Rattle.rules.specs.Record.{bodyLength, recordBytes, readAlone, writeVerdict, written}
 use Rattle.rules.specs.Refusals.{Verdict, numberOf, first, afterwards, answer}
-use Rattle.rules.specs.Services.{eachAt, eachAtℤ, residualChecks, residualFigures, curveChecks, curveFigures, distributionChecks, distributionFigures, periodisationChecks, periodisationFigures, reconciliationChecks, reconciliationLoss, reconciliationDifferences, reconciliationAmounts}
+use Rattle.rules.specs.Services.{eachAt, eachAtℤ, residualChecks, residualFigures, curveChecks, curveFigures, distributionChecks, distributionFigures}
+use Rattle.rules.specs.Services.{periodisationChecks, periodisationFigures, reconciliationChecks, reconciliationLoss, reconciliationDifferences, reconciliationAmounts}
 use Rattle.rules.specs.Words.{atMost}
 use Rattle.settle_c.specs.Coded.{coded, kept}
 use Rattle.statement_text.specs.Stating as Statement
@@ -49,6 +50,12 @@ OneFits {Result} promise = (r s : Result) → promise r → promise s → r ≡ 
 -- a verdict's answer, with what a lent list then holds
 unfoldable pub Answered : {A : Type 0} → Verdict → List A → List A → Answer × List A → Type 0
 Answered verdict figures lent r = (said (r .0) ≡ verdict) × (r .1 ≡ afterwards (said (r .0)) figures lent)
+
+-- what the reconciliation of one hour gives, with what the lent lists then hold
+pub record HourResult : Type 0 where
+  pub answer : Reconciled
+  pub differences : List ℤ
+  pub amounts : List ℤ
 
 -- THE SERVICES OF SETTLEMENT, each alone
 pub record Services : Type 0 where
@@ -71,17 +78,25 @@ pub record Services : Type 0 where
   pub reconciliation :
       (residual : ℕ) (distributed : List ℤ) (periodised : List ℕ) (carrier : ℕ) (price : ℤ) (differences amounts : List ℤ)
       → OneFits
-      (λ (r : Reconciled × List ℤ × List ℤ).
-      (Hour.verdict (r .0) ≡ first (reconciliationChecks residual distributed periodised carrier price (length differences) (length amounts)))
-      × (Hour.told (r .0) ≡ answer (Hour.verdict (r .0)) (reconciliationLoss residual periodised))
-      × (r .1 ≡ afterwards (Hour.verdict (r .0)) (reconciliationDifferences residual distributed periodised carrier) differences)
-      × (r .2 ≡ afterwards (Hour.verdict (r .0)) (reconciliationAmounts (reconciliationDifferences residual distributed periodised carrier) price) amounts))
+      (λ (r : HourResult).
+      let verdict : Verdict = Hour.verdict (r .answer) in
+      let exact : List ℤ = reconciliationDifferences residual distributed periodised carrier in
+      (verdict ≡ first (reconciliationChecks residual distributed periodised carrier price (length differences) (length amounts)))
+      × (Hour.told (r .answer) ≡ answer verdict (reconciliationLoss residual periodised))
+      × (r .differences ≡ afterwards verdict exact differences)
+      × (r .amounts ≡ afterwards verdict (reconciliationAmounts exact price) amounts))
   pub loss-of : (party carrier : ℕ) (loss : ℤ) → OneFits (λ (r : ℤ). r ≡ lossOf carrier loss party)
   pub invoice-ore : (amount : ℤ) → OneFits (λ (r : ℤ). r ≡ invoiceOre amount)
 
 -- THE SAME FOR C: a number for the answer, with what a lent list then holds
 unfoldable pub Numbered : {A : Type 0} → Verdict → List A → List A → ℕ × List A → Type 0
 Numbered verdict figures lent r = (r .0 ≡ coded verdict) × (r .1 ≡ afterwards verdict figures lent)
+
+pub record HourResultForC : Type 0 where
+  pub answer : ℕ
+  pub loss : ℤ
+  pub differences : List ℤ
+  pub amounts : List ℤ
 
 pub record ServicesForC : Type 0 where
   pub residual :
@@ -101,12 +116,13 @@ pub record ServicesForC : Type 0 where
   pub reconciliation :
       (residual : ℕ) (distributed : List ℤ) (periodised : List ℕ) (carrier : ℕ) (price : ℤ) (loss : ℤ) (differences amounts : List ℤ)
       → OneFits
-      (λ (r : ℕ × ℤ × List ℤ × List ℤ).
+      (λ (r : HourResultForC).
       let verdict : Verdict = first (reconciliationChecks residual distributed periodised carrier price (length differences) (length amounts)) in
-      (r .0 ≡ coded verdict)
-      × (r .1 ≡ kept verdict (reconciliationLoss residual periodised) loss)
-      × (r .2 ≡ afterwards verdict (reconciliationDifferences residual distributed periodised carrier) differences)
-      × (r .3 ≡ afterwards verdict (reconciliationAmounts (reconciliationDifferences residual distributed periodised carrier) price) amounts))
+      let exact : List ℤ = reconciliationDifferences residual distributed periodised carrier in
+      (r .answer ≡ coded verdict)
+      × (r .loss ≡ kept verdict (reconciliationLoss residual periodised) loss)
+      × (r .differences ≡ afterwards verdict exact differences)
+      × (r .amounts ≡ afterwards verdict (reconciliationAmounts exact price) amounts))
   pub invoice-ore : (amount : ℤ) → OneFits (λ (r : ℤ). r ≡ invoiceOre amount)
 
 -- ONE RECORD
@@ -130,19 +146,25 @@ pub record Records : Type 0 where
       (wrote (w .0) ≡ answer (plainVerdict kind numbers gln (length lent)) (length (recordBytes (recordOf gln (plainRecord kind numbers)))))
       × (w .1 ≡ afterwards (plainVerdict kind numbers gln (length lent)) (written (recordOf gln (plainRecord kind numbers)) lent) lent))
 
+-- the lent outputs of a run of hours, by their names
+pub record RunOutputs : Type 0 where
+  pub distributed : List ℤ
+  pub periodised : List ℕ
+  pub differences : List ℤ
+  pub losses : List ℤ
+
 -- A WHOLE FILE: its reading, its settlement, the hours of a run, its two texts
 pub record WholeFiles : Type 0 where
   pub month-file-read : (file : List ℕ) → OneFits (λ (r : MonthRead). File.told r ≡ File.readAnswer (readMonth file))
   pub month-settle :
-      (file : List ℕ) (d₀ : List ℤ) (p₀ : List ℕ) (l₀ x₀ a₀ : List ℤ)
-      → OneFits
-      (λ (r : Settlement × List ℤ × List ℕ × List ℤ × List ℤ × List ℤ).
-      Month.Promised file (r .0) d₀ p₀ l₀ x₀ a₀ (r .1) (r .2) (r .3) (r .4) (r .5))
+      (file : List ℕ) (lent : Month.Outputs) → OneFits (λ (r : Settlement × Month.Outputs). Month.Kept file (r .0) lent (r .1))
   pub month-run-hours :
-      (file : List ℕ) (start hours : ℕ) (d₀ : List ℤ) (p₀ : List ℕ) (x₀ l₀ : List ℤ)
+      (file : List ℕ) (start hours : ℕ) (lent : RunOutputs)
       → OneFits
-      (λ (r : Answer × List ℤ × List ℕ × List ℤ × List ℤ).
-      Run.Promised file start hours (r .0) d₀ p₀ x₀ l₀ (r .1) (r .2) (r .3) (r .4))
+      (λ (r : Answer × RunOutputs).
+      let held : RunOutputs = r .1 in
+      Run.Promised file start hours (r .0) (lent .distributed) (lent .periodised) (lent .differences) (lent .losses)
+      (held .distributed) (held .periodised) (held .differences) (held .losses))
   pub statement : (file lent : List ℕ) → OneFits (λ (r : Stated × List ℕ). Statement.Promised file lent (r .0) (r .1))
   pub hours-report :
       (file first rest parties : List ℕ)

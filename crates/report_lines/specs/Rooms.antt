@@ -3,17 +3,14 @@ use Prim.Native.Nat.{ℕ}
 
 -- the most bytes of an hour's line: the hour 20 and two statuses, each a space and at most 9 bytes; then twice three columns of a space and a number, and
 -- the newline
-abbrev pub statusRoom : ℕ
-statusRoom = 10
+abbrev pub statusWordRoom : ℕ
+statusWordRoom = 10
 
-abbrev pub statusesRoom : ℕ
-statusesRoom = 40
+abbrev pub hourStatusesRoom : ℕ
+hourStatusesRoom = 40
 
 abbrev pub seriesRoom : ℕ
 seriesRoom = 63
-
-abbrev pub partsRoom : ℕ
-partsRoom = 63
 
 abbrev pub hourRoom : ℕ
 hourRoom = 167

@@ -3,9 +3,9 @@
 ghost use mathlib.Core.List.{_++_};
 ghost use Prim.Native.Nat.{_+_, _≤_};
 ghost use lib.ListN.{length};
-ghost use Rattle.report_lines.specs.Rooms.{statusRoom, statusesRoom, seriesRoom, partsRoom, hourRoom, fractionRoom, distancesRoom};
 ghost use Rattle.report_lines.specs.HourText.{hourText};
-ghost use Rattle.rules.specs.HoursReport.{statusWord, statusesText, seriesText, partsText, fraction, distancesText};
+ghost use Rattle.report_lines.specs.Rooms.{statusWordRoom, hourStatusesRoom, seriesRoom, hourRoom, fractionRoom, distancesRoom};
+ghost use Rattle.rules.specs.HoursReport.{statusWord, statusesText, seriesText, fraction, distancesText};
 ghost use Rattle.rules.specs.Words.{ascii};
 ghost use Rattle.text.specs.Text.{Put, longestName};
 
@@ -14,36 +14,33 @@ pub const HOUR_ROOM: usize = 167;
 
 pub const DISTANCES_ROOM: usize = 98;
 
-// "Each hour has a status: 0 missing, 1 measured, 2 estimated."
-const ESTIMATED: u8 = 2;
-
 // A column: a space, and then a status in words.
-fn put_status(out: &mut [u8], place: usize, status: u8) -> usize
-    requires { ⌜ place + statusRoom ≤ length (now out) ⌝ }
+fn put_status_word(out: &mut [u8], place: usize, status: u8) -> usize
+    requires { ⌜ place + statusWordRoom ≤ length (now out) ⌝ }
     ensures text { λ end. ⌜ Put (ascii " " ++ statusWord status) (now (out .entry)) place (now (out .exit)) end ⌝ }
-    ensures within { λ end. ⌜ end ≤ place + statusRoom ⌝ }
+    ensures within { λ end. ⌜ end ≤ place + statusWordRoom ⌝ }
 {
-    if status == ESTIMATED {
+    if status == limits::ESTIMATED {
         return text::put_bytes(out, place, b" estimated");
     }
     text::put_bytes(out, place, b" measured")
 }
 
 // "Which hours were measured?": the hour and the status of its fixed and of its applied figure.
-fn put_statuses(
+fn put_hour_statuses(
     out: &mut [u8],
     place: usize,
     hour: u64,
     fixed_status: u8,
     applied_status: u8,
 ) -> usize
-    requires { ⌜ place + statusesRoom ≤ length (now out) ⌝ }
+    requires { ⌜ place + hourStatusesRoom ≤ length (now out) ⌝ }
     ensures text { λ end. ⌜ Put (statusesText hour «fixed_status» «applied_status») (now (out .entry)) place (now (out .exit)) end ⌝ }
-    ensures within { λ end. ⌜ end ≤ place + statusesRoom ⌝ }
+    ensures within { λ end. ⌜ end ≤ place + hourStatusesRoom ⌝ }
 {
     let after_hour = text::put_number(out, place, hour);
-    let after_fixed = put_status(out, after_hour, fixed_status);
-    put_status(out, after_fixed, applied_status)
+    let after_fixed = put_status_word(out, after_hour, fixed_status);
+    put_status_word(out, after_fixed, applied_status)
 }
 
 // Fixed residual, applied residual and curve number.
@@ -58,29 +55,12 @@ fn put_series(
     ensures text { λ end. ⌜ Put (seriesText «fixed_wh» «applied_wh» «curve_number») (now (out .entry)) place (now (out .exit)) end ⌝ }
     ensures within { λ end. ⌜ end ≤ place + seriesRoom ⌝ }
 {
-    let after_fixed = text::put_word_number(out, place, b" ", fixed_wh);
-    let after_applied = text::put_word_number(out, after_fixed, b" ", applied_wh);
-    text::put_word_number(out, after_applied, b" ", curve_number)
+    let after_fixed = text::put_unsigned(out, place, fixed_wh);
+    let after_applied = text::put_unsigned(out, after_fixed, applied_wh);
+    text::put_unsigned(out, after_applied, curve_number)
 }
 
-// "Do the suppliers' parts add up ..?": the sum of the distributed, the sum of the periodised, and the loss.
-fn put_parts(
-    out: &mut [u8],
-    place: usize,
-    distributed_wh: i64,
-    periodised_wh: u64,
-    loss_wh: i64,
-) -> usize
-    requires { ⌜ place + partsRoom ≤ length (now out) ⌝ }
-    ensures text { λ end. ⌜ Put (partsText «distributed_wh» «periodised_wh» «loss_wh») (now (out .entry)) place (now (out .exit)) end ⌝ }
-    ensures within { λ end. ⌜ end ≤ place + partsRoom ⌝ }
-{
-    let after_distributed = text::put_column(out, place, distributed_wh);
-    let after_periodised = text::put_word_number(out, after_distributed, b" ", periodised_wh);
-    text::put_column(out, after_periodised, loss_wh)
-}
-
-// THE LINE OF AN HOUR
+// THE LINE OF AN HOUR, which ends with "Do the suppliers' parts add up ..?": the sum of the distributed, the sum of the periodised, and the loss.
 pub fn hour_line(
     out: &mut [u8],
     place: usize,
@@ -98,7 +78,7 @@ pub fn hour_line(
     ensures text { λ end. ⌜ Put (hourText hour «fixed_status» «applied_status» «fixed_wh» «applied_wh» «curve_number» «distributed_wh» «periodised_wh» «loss_wh») (now (out .entry)) place (now (out .exit)) end ⌝ }
     ensures within { λ end. ⌜ end ≤ place + hourRoom ⌝ }
 {
-    let series = put_statuses(out, place, hour as u64, fixed_status, applied_status);
+    let series = put_hour_statuses(out, place, hour as u64, fixed_status, applied_status);
     let parts = put_series(
         out,
         series,
@@ -106,8 +86,9 @@ pub fn hour_line(
         applied_wh as u64,
         curve_number as u64,
     );
-    let after_parts = put_parts(out, parts, distributed_wh, periodised_wh, loss_wh);
-    text::put_bytes(out, after_parts, b"\n")
+    let loss = text::put_energies(out, parts, distributed_wh, periodised_wh);
+    let after_loss = text::put_column(out, loss, loss_wh);
+    text::put_bytes(out, after_loss, b"\n")
 }
 
 // A column: a space, and then an exact fraction n/W of a Wh.

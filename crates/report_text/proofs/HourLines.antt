@@ -12,7 +12,7 @@ use Rattle.file_sections.specs.declared.Sections.{Sections}
 use Rattle.file_sections.proofs.AcceptedFile.{month-whole, hours-are}
 use Rattle.report_lines.specs.HourText.{hourText}
 use Rattle.rules.specs.HoursReport.{hourLine, allDistributed}
-use Rattle.rules.specs.Limits.{greatestPeriodised}
+use Rattle.rules.specs.Limits.{mostHours, greatestPeriodised}
 use Rattle.rules.specs.Month.{monthOf, flowsAt, appliedFlows, fixedWh, appliedWh, curve, allPeriodised, loss}
 use Rattle.rules.specs.MonthFile.{MonthFile, H}
 use Rattle.rules.specs.Reconciliation.{gridLoss}
@@ -31,7 +31,7 @@ module _ {file : List ℕ} {s : Sections} {fixed applied curveNumbers : List ℕ
   abbrev m : MonthFile
   m = monthOf file
 
-  pub few : H m ≤ 745
+  pub few : H m ≤ mostHours
   few = omega (arith, few-hours file s (known .read), hours-are file s (known .read))
 
   fixed-at : {t : ℕ} → t < H m → getD fixed t 0 ≡ fixedWh m t
@@ -53,7 +53,7 @@ module _ {file : List ℕ} {s : Sections} {fixed applied curveNumbers : List ℕ
     this : t < H m
     this = omega (arith, hour .inside)
 
-    pub short : t < 745
+    pub short : t < mostHours
     short = omega (arith, this, few)
 
     pub in-fixed : t < length fixed
@@ -85,7 +85,14 @@ module _ {file : List ℕ} {s : Sections} {fixed applied curveNumbers : List ℕ
         e ∙ ap₂ (λ (x y : ℕ). pos x -ℤ pos y) (applied-at this) (periodised-at this)
 
     -- THE LINE OF THE HOUR
-    pub hour-text : {a b : ℕ} → a ≡ flowsAt (m .fixed) t .status → b ≡ appliedFlows m t .status → {d l : ℤ} → d ≡ getD distributed t (pos 0) → l ≡ pos (getD applied t 0) -ℤ pos (getD periodised t 0) → hourText t a b (getD fixed t 0) (getD applied t 0) (getD curveNumbers t 0) d (getD periodised t 0) l ≡ hourLine m t
+    pub hour-text :
+        {a b : ℕ}
+        → a ≡ flowsAt (m .fixed) t .status
+        → b ≡ appliedFlows m t .status
+        → {d l : ℤ}
+        → d ≡ getD distributed t (pos 0)
+        → l ≡ pos (getD applied t 0) -ℤ pos (getD periodised t 0)
+        → hourText t a b (getD fixed t 0) (getD applied t 0) (getD curveNumbers t 0) d (getD periodised t 0) l ≡ hourLine m t
     unfolding hourText hourLine
     hour-text {a} {b} of-a of-b {d} {l} of-d of-l =
         rw (

@@ -30,10 +30,23 @@ module _ (file : List ℕ) (s : Sections) (ok : Accepted file s) {made : Hourly}
     pub no-refusal : monthVerdict (monthOf file) ≡ R.accepted
     no-refusal = sym (is .verdict) ∙ ap said done
 
-    pub known : {has : Bool} → has ≡ not (eqb (s .refixed) 0) → {applied : List ℕ} → applied ≡ appliedOf fixed refixed has → Known file s fixed applied curveNumbers distributed periodised
+    pub known :
+        {has : Bool}
+        → has ≡ not (eqb (s .refixed) 0)
+        → {applied : List ℕ}
+        → applied ≡ appliedOf fixed refixed has
+        → Known file s fixed applied curveNumbers distributed periodised
     known by applied-is =
         let all = is .made (ap said done) in
-        record { read = ok; no-refusal = no-refusal; fixed-is = all .fixed-is; applied-is = applied-is ∙ applied-figures file s ok (all .fixed-is) (all .refixed-is) by; curve-is = all .curve-is; distributed-is = all .distributed-is; periodised-is = all .periodised-is }
+        record {
+          read = ok;
+          no-refusal = no-refusal;
+          fixed-is = all .fixed-is;
+          applied-is = applied-is ∙ applied-figures file s ok (all .fixed-is) (all .refixed-is) by;
+          curve-is = all .curve-is;
+          distributed-is = all .distributed-is;
+          periodised-is = all .periodised-is;
+        }
 
     pub distanced : Distanced file s (made .w) (made .distances)
     distanced =

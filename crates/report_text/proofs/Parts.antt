@@ -13,6 +13,7 @@ use Rattle.file_sections.specs.declared.Sections.{Sections}
 use Rattle.file_sections.proofs.AcceptedFile.{hours-are, heading-text}
 use Rattle.report_lines.specs.Rooms.{hourRoom}
 use Rattle.rules.specs.HoursReport.{hourLine, distancesLine, reportLines}
+use Rattle.rules.specs.Limits.{mostHours}
 use Rattle.rules.specs.Month.{monthOf, estimatedHours}
 use Rattle.rules.specs.MonthFile.{MonthFile, H, P}
 use Rattle.rules.specs.Statement.{headingText, headingLine, joined}
@@ -81,7 +82,10 @@ module _ (file : List ℕ) (s : Sections) (ok : Accepted file s) where
       pub room-for-hours : firstRoom ≤ length before → end₁ + hours * hourRoom ≤ length out₁
       room-for-hours room = omega (arith, put-length h, few-first)
 
-      pub first-part : {after : List ℕ} {end : ℕ} → LinePut (joined (figures hours (lineFrom m 0))) out₁ end₁ (hours * hourRoom) after end → LinePut (firstPart m) before 0 firstRoom after end
+      pub first-part :
+          {after : List ℕ} {end : ℕ}
+          → LinePut (joined (figures hours (lineFrom m 0))) out₁ end₁ (hours * hourRoom) after end
+          → LinePut (firstPart m) before 0 firstRoom after end
       unfolding firstPart
       first-part l =
           record { put = put-then (put-as (heading-text file s ok (asked .counted)) h) (put-as first-lines (l .put)); within = omega (arith, l .within, few-first) }
@@ -100,7 +104,7 @@ module _ (file : List ℕ) (s : Sections) (ok : Accepted file s) where
     pub first-asked : {estimated : ℕ} → estimated ≡ estimatedHours m → FirstAsked file estimated hours
     first-asked counted = record { counted = counted; hours-are = first-is }
 
-    few-others : s .heading .hours - hours ≤ 372
+    few-others : s .heading .hours - hours ≤ mostHours - firstHours
     few-others =
         ⊎-elim (λ (short : (H m ≤ firstHours) × (min (H m) firstHours ≡ H m)). omega (arith, short .1, first-is, hours-are file s ok))
         (λ (long : (firstHours ≤ H m) × (min (H m) firstHours ≡ firstHours)). omega (arith, long .1, first-is, hours-are file s ok, few-hours file s ok))
@@ -120,5 +124,8 @@ module _ (file : List ℕ) (s : Sections) (ok : Accepted file s) where
         ap₂ (λ (n k : ℕ). joined (figures (n - k) (lineFrom m k))) (hours-are file s ok) (first-is ∙ long .1))
         (in-two (H m))
 
-    pub rest-part : {before after : List ℕ} {end : ℕ} → LinePut (joined (figures (s .heading .hours - hours) (lineFrom m hours))) before 0 ((s .heading .hours - hours) * hourRoom) after end → LinePut (restPart m) before 0 restRoom after end
+    pub rest-part :
+        {before after : List ℕ} {end : ℕ}
+        → LinePut (joined (figures (s .heading .hours - hours) (lineFrom m hours))) before 0 ((s .heading .hours - hours) * hourRoom) after end
+        → LinePut (restPart m) before 0 restRoom after end
     rest-part l = record { put = put-as rest-lines (l .put); within = omega (arith, l .within, few-others) }

@@ -14,6 +14,7 @@ use Rattle.file_sections.specs.declared.Sections.{Sections}
 use Rattle.file_sections.proofs.AcceptedFile.{parties-are}
 use Rattle.file_fields.proofs.FieldsRead.{gln-read, gln-length}
 use Rattle.rules.specs.HoursReport.{distancesText, distancesLine}
+use Rattle.rules.specs.Limits.{mostParties}
 use Rattle.rules.specs.Month.{monthOf}
 use Rattle.rules.specs.MonthFile.{P}
 use Rattle.rules.specs.Statement.{joined}
@@ -39,15 +40,24 @@ module _ {file : List ℕ} {s : Sections} {w : ℕ} {x : Distances} (known : L.D
   n-is : s .heading .parties ≡ P (monthOf file)
   n-is = parties-are file s (known .read)
 
-  pub few : s .heading .parties ≤ 64
+  pub few : s .heading .parties ≤ mostParties
   few = few-parties file s (known .read)
 
   pub party-asked : {i : ℕ} → i < s .heading .parties → {a b : ℤ} → a ≡ getD (x .smallest) i (pos 0) → b ≡ getD (x .largest) i (pos 0) → L.PartyAsked file s w i a b
   party-asked {i} b of-a of-b =
       let there : i < P (monthOf file) = omega (arith, n-is) in
-      record { read = known .read; party = there; w-is = known .w-is; least-is = of-a ∙ known .smallest-is .below i there; most-is = of-b ∙ known .largest-is .below i there }
+      record {
+        read = known .read;
+        party = there;
+        w-is = known .w-is;
+        least-is = of-a ∙ known .smallest-is .below i there;
+        most-is = of-b ∙ known .largest-is .below i there;
+      }
 
-  pub all-lines : {before : List ℕ} {place room : ℕ} {after : List ℕ} {end : ℕ} → LinePut (joined (figures (s .heading .parties) (distancesLine (monthOf file)))) before place room after end → LinePut (L.partiesPart (monthOf file)) before place room after end
+  pub all-lines :
+      {before : List ℕ} {place room : ℕ} {after : List ℕ} {end : ℕ}
+      → LinePut (joined (figures (s .heading .parties) (distancesLine (monthOf file)))) before place room after end
+      → LinePut (L.partiesPart (monthOf file)) before place room after end
   unfolding L.partiesPart
   all-lines {before} {place} {room} {after} {end} l =
       subst (λ (n : ℕ). LinePut (joined (figures n (distancesLine (monthOf file)))) before place room after end) n-is l

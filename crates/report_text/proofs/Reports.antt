@@ -56,24 +56,42 @@ module _ (file : List ℕ) (s : Sections) (ok : Accepted file s) (no-refusal : m
     pub too-short : rooms (length first) (length rest) (length parties) ≡ false → Promised file first rest parties (S.Refused WrongLength 0) first rest parties
     unfolding R.answer R.afterwards R.unless
     too-short short =
-        let v : reportVerdict file (length first) (length rest) (length parties) ≡ R.refused R.wrongLength 0 = report-verdict (length first) (length rest) (length parties) ∙ ap (λ (t : Bool). R.unless t R.wrongLength 0) short in
+        let v : reportVerdict file (length first) (length rest) (length parties) ≡ R.refused R.wrongLength 0 =
+        report-verdict (length first) (length rest) (length parties) ∙ ap (λ (t : Bool). R.unless t R.wrongLength 0) short in
         record { answer = ap (λ (w : R.Verdict). R.answer w (lengthsOf m)) (sym v); first-hours = refl; other-hours = refl; all-parties = refl }
 
-    pub reported : Roomy (length first) (length rest) (length parties) → {first′ rest′ parties′ : List ℕ} {a b c : ℕ} → LinePut (firstPart m) first 0 firstRoom first′ a → LinePut (restPart m) rest 0 restRoom rest′ b → LinePut (partiesPart m) parties 0 partiesRoom parties′ c → Promised file first rest parties (S.Lines a b c) first′ rest′ parties′
+    pub reported :
+        Roomy (length first) (length rest) (length parties)
+        → {first′ rest′ parties′ : List ℕ} {a b c : ℕ}
+        → LinePut (firstPart m) first 0 firstRoom first′ a
+        → LinePut (restPart m) rest 0 restRoom rest′ b
+        → LinePut (partiesPart m) parties 0 partiesRoom parties′ c
+        → Promised file first rest parties (S.Lines a b c) first′ rest′ parties′
     unfolding R.answer R.afterwards R.unless atStart lengthsOf
     reported room {first′} {rest′} {parties′} {a} {b} {c} x y z =
-        let v : reportVerdict file (length first) (length rest) (length parties) ≡ R.accepted = report-verdict (length first) (length rest) (length parties) ∙ ap (λ (t : Bool). R.unless t R.wrongLength 0) (all-room (length first) (length rest) (length parties) room) in
+        let v : reportVerdict file (length first) (length rest) (length parties) ≡ R.accepted =
+        report-verdict (length first) (length rest) (length parties)
+        ∙ ap (λ (t : Bool). R.unless t R.wrongLength 0) (all-room (length first) (length rest) (length parties) room) in
         let of-a : a ≡ length (firstPart m) = omega (arith, x .put .ends) in
         let of-b : b ≡ length (restPart m) = omega (arith, y .put .ends) in
         let of-c : c ≡ length (partiesPart m) = omega (arith, z .put .ends) in
         let lengths : record { first = a; rest = b; parties = c } ≡ lengthsOf m = rw (of-a, of-b, of-c) refl in
-        record { answer = ap R.given lengths ∙ ap (λ (w : R.Verdict). R.answer w (lengthsOf m)) (sym v); first-hours = put-at-start (x .put) (omega (arith, x .within, room .first-room)); other-hours = put-at-start (y .put) (omega (arith, y .within, room .rest-room)); all-parties = put-at-start (z .put) (omega (arith, z .within, room .parties-room)) }
+        record {
+          answer = ap R.given lengths ∙ ap (λ (w : R.Verdict). R.answer w (lengthsOf m)) (sym v);
+          first-hours = put-at-start (x .put) (omega (arith, x .within, room .first-room));
+          other-hours = put-at-start (y .put) (omega (arith, y .within, room .rest-room));
+          all-parties = put-at-start (z .put) (omega (arith, z .within, room .parties-room));
+        }
 
 -- a refused file: nothing is written
-pub refused-file : (file : List ℕ) (x : Refusal) (place : ℕ) (first rest parties : List ℕ) → fileVerdict file ≡ R.refused (named x) place → Promised file first rest parties (S.Refused x place) first rest parties
+pub refused-file :
+    (file : List ℕ) (x : Refusal) (place : ℕ) (first rest parties : List ℕ)
+    → fileVerdict file ≡ R.refused (named x) place
+    → Promised file first rest parties (S.Refused x place) first rest parties
 unfolding R.answer R.afterwards reportVerdict R.andThen
 refused-file file x place first rest parties e =
-    let v : reportVerdict file (length first) (length rest) (length parties) ≡ R.refused (named x) place = ap (λ (w : R.Verdict). R.andThen w (R.unless (rooms (length first) (length rest) (length parties)) R.wrongLength 0)) e in
+    let v : reportVerdict file (length first) (length rest) (length parties) ≡ R.refused (named x) place =
+    ap (λ (w : R.Verdict). R.andThen w (R.unless (rooms (length first) (length rest) (length parties)) R.wrongLength 0)) e in
     record { answer = ap (λ (w : R.Verdict). R.answer w (lengthsOf (monthOf file))) (sym v); first-hours = refl; other-hours = refl; all-parties = refl }
 
 -- THE REPORT OF A FILE is its parts
@@ -81,8 +99,15 @@ pub report-text : (file : List ℕ) → fileVerdict file ≡ R.accepted → hour
 unfolding fileVerdict verdictOn hoursReport answeredReport judgedReport
 report-text file e = go (readMonth file) refl e
   where
-    go : (a : R.Answer MonthFile) → readMonth file ≡ a → verdictOn a ≡ R.accepted → answeredReport a ≡ firstPart (monthOf file) ++ restPart (monthOf file) ++ partiesPart (monthOf file)
-    go (R.given n) is f = ap (judgedReport n) f ∙ sym (parts-make-the-report n) ∙ ap (λ (k : MonthFile). firstPart k ++ restPart k ++ partiesPart k) (sym (month-of file is))
+    go :
+        (a : R.Answer MonthFile)
+        → readMonth file ≡ a
+        → verdictOn a ≡ R.accepted
+        → answeredReport a ≡ firstPart (monthOf file) ++ restPart (monthOf file) ++ partiesPart (monthOf file)
+    go (R.given n) is f =
+        ap (judgedReport n) f
+        ∙ sym (parts-make-the-report n)
+        ∙ ap (λ (k : MonthFile). firstPart k ++ restPart k ++ partiesPart k) (sym (month-of file is))
     go (R.refusal x q) is f = cc
 
 -- or its refusal line

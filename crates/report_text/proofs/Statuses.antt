@@ -36,7 +36,9 @@ module _ {file : List ℕ} {s : Sections} {t : ℕ} (asked : FixedAsked file s t
 
     pub refixed-asked : RefixedAsked file s t
     refixed-asked =
-        let all : length (m .refixed) ≡ H m = ⊎-elim (λ (z : length (m .refixed) ≡ 0). absurd (omega (arith, any))) (λ (h : length (m .refixed) ≡ H m). h) (month-whole file s (asked .accepted) .none-or-all-refixed) in
+        let all : length (m .refixed) ≡ H m =
+        ⊎-elim (λ (z : length (m .refixed) ≡ 0). absurd (omega (arith, any))) (λ (h : length (m .refixed) ≡ H m). h)
+        (month-whole file s (asked .accepted) .none-or-all-refixed) in
         record { accepted = asked .accepted; hour = omega (arith, asked .hour, hours-are file s (asked .accepted), refixed-are file s (asked .accepted)) }
 
     pub all-refixed : {f : CFlows.Flows} → RefixedIs file t f → f .status ≡ appliedFlows m t .status

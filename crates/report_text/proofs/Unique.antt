@@ -30,7 +30,20 @@ told-once (Refused x place) (Refused y other) e =
     let same : x ≡ y = named-once x y same-name in
     cc
 
-pub report-unique : {file first rest parties : List ℕ} {r s : Reported} {a b c x y z : List ℕ} → Promised file first rest parties r a b c → Promised file first rest parties s x y z → (r ≡ s) × ((a ≡ x) × ((b ≡ y) × (c ≡ z)))
+pub report-unique :
+    {file first rest parties : List ℕ} {r s : Reported} {a b c x y z : List ℕ}
+    → Promised file first rest parties r a b c
+    → Promised file first rest parties s x y z → (r ≡ s) × ((a ≡ x) × ((b ≡ y) × (c ≡ z)))
 report-unique {file} {first} {rest} {parties} {r} {s} p q =
-    let same : r ≡ s = told-once r s (p .answer ∙ sym (q .answer)) in
-    (same, (p .first-hours ∙ ap (λ (t : Reported). R.afterwards (verdict t) (atStart (firstPart (monthOf file)) first) first) same ∙ sym (q .first-hours), (p .other-hours ∙ ap (λ (t : Reported). R.afterwards (verdict t) (atStart (restPart (monthOf file)) rest) rest) same ∙ sym (q .other-hours), p .all-parties ∙ ap (λ (t : Reported). R.afterwards (verdict t) (atStart (partiesPart (monthOf file)) parties) parties) same ∙ sym (q .all-parties))))
+    let same : r ≡ s = told-once r s (p .answer ∙ sym (q .answer)) in (
+      same,
+      (
+        p .first-hours ∙ ap (λ (t : Reported). R.afterwards (verdict t) (atStart (firstPart (monthOf file)) first) first) same ∙ sym (q .first-hours),
+        (
+          p .other-hours ∙ ap (λ (t : Reported). R.afterwards (verdict t) (atStart (restPart (monthOf file)) rest) rest) same ∙ sym (q .other-hours),
+          p .all-parties
+              ∙ ap (λ (t : Reported). R.afterwards (verdict t) (atStart (partiesPart (monthOf file)) parties) parties) same
+              ∙ sym (q .all-parties),
+        ),
+      ),
+    )

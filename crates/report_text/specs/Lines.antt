@@ -1,32 +1,35 @@
 -- The lines of the reviewer's report in the three lent buffers: the heading line and the first hours, the other hours, the parties.
 use mathlib.Core.List.{List, _++_}
 use mathlib.Core.Path.{_≡_}
-use Prim.Native.Nat.{ℕ, _+_, _-_, _≤_, _<_, min}
+use Prim.Native.Nat.{ℕ, _+_, _-_, _*_, _/_, _≤_, _<_, min}
 use lib.IntN.{ℤ, pos}
 use Rattle.apportion.specs.Filled.{Filled}
 use Rattle.report_distances.specs.declared.Distances.{Distances}
 use Rattle.file_sections.specs.Walk.{Accepted}
 use Rattle.file_sections.specs.declared.Sections.{Sections}
+use Rattle.report_lines.specs.Rooms.{hourRoom, distancesRoom}
 use Rattle.rules.specs.HoursReport.{hourLine, allDistributed, smallestDistance, largestDistance, distancesLine}
+use Rattle.rules.specs.Limits.{mostHours, mostParties}
 use Rattle.rules.specs.Month.{monthOf, monthW, fixedWh, appliedWh, curve, allPeriodised, estimatedHours, monthVerdict}
 use Rattle.rules.specs.MonthFile.{MonthFile, H, P}
 use Rattle.rules.specs.Refusals.{accepted}
 use Rattle.rules.specs.Statement.{headingLine, joined}
 use Rattle.rules.specs.Words.{figures}
+use Rattle.statement_lines.specs.Rooms.{headingRoom}
 
 -- so many hours' lines go into the first buffer: all together could pass 64 KiB
 abbrev pub firstHours : ℕ
-firstHours = 373
+firstHours = mostHours / 2 + 1
 
--- the most bytes of the heading line and the first hours, of the other hours, and of 64 parties
+-- the most bytes of the heading line and the first hours, of the other hours, and of the parties
 abbrev pub firstRoom : ℕ
-firstRoom = 62411
+firstRoom = headingRoom + firstHours * hourRoom
 
 abbrev pub restRoom : ℕ
-restRoom = 62124
+restRoom = (mostHours - firstHours) * hourRoom
 
 abbrev pub partiesRoom : ℕ
-partiesRoom = 6272
+partiesRoom = mostParties * distancesRoom
 
 -- the line of an hour, counted from hour `start` on
 unfoldable pub lineFrom : MonthFile → ℕ → ℕ → List ℕ

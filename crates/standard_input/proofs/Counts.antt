@@ -1,4 +1,4 @@
--- Counts within what was lent: of a read that gave bytes, and of an input that was read whole.
+-- Counts within what was lent: of a read that gave bytes, and of all that was read so far.
 use mathlib.Core.Bool.{true}
 use mathlib.Core.List.{List}
 use mathlib.Core.Path.{_≡_, sym, _∙_, subst}
@@ -14,9 +14,7 @@ use mir.Facts.{toZ-ofZ, fits-natAbs}
 use mir.Syntax.{w64}
 use mir.Val.{Fits, SFits, toZ, ofZ}
 use Rattle.libc.specs.Io.{Moved}
-use Rattle.standard_input.specs.Reading.{PieceWithin, InputWithin}
-use Rattle.standard_input.specs.declared.Input.{Input}
-use Rattle.standard_input.specs.declared.Input.the-variants as I
+use Rattle.standard_input.specs.Reading.{PieceWithin}
 use Rattle.standard_input.specs.declared.Piece.{Piece}
 use Rattle.standard_input.specs.declared.Piece.the-variants as P
 
@@ -36,40 +34,33 @@ module _ (got : ℤ) (f : SFits w64 got) (positive : ltZ (pos 0) (toZ w64 (ofZ w
   pub count-within : {lent most : ℕ} → Moved lent got → most ≡ lent → PieceWithin (P.Bytes (natAbs (toZ w64 (ofZ w64 got)))) most
   count-within m same = rw same (rw (toZ-ofZ f) (moved got (rw (toZ-ofZ f) at positive) m))
 
--- a piece that is known to be bytes, and an input that is known to be whole
+-- a piece that is known to be bytes
 bytes-within : {p : Piece} {n most : ℕ} → p ≡ P.Bytes n → PieceWithin p most → (0 < n) × (n ≤ most)
 bytes-within {most = most} e h = subst (λ (p : Piece). PieceWithin p most) e h
 
-pub whole-within : {i : Input} {n most : ℕ} → i ≡ I.Whole n → InputWithin i most → n ≤ most
-whole-within {most = most} e h = subst (λ (i : Input). InputWithin i most) e h
-
 -- the reading loop: so many bytes of the lent buffer are filled
-pub record Filled (lent buffer : List ℕ) (done : ℕ) : Type 0 where
+pub record Filled (lent buffer : List ℕ) (filled : ℕ) : Type 0 where
   pub size : length buffer ≡ length lent
-  pub bound : done ≤ length buffer
+  pub bound : filled ≤ length buffer
 
--- one turn: a read into the part that is still free gave n bytes
-module _
-    {lent buffer : List ℕ} (part : List ℕ) {done n : ℕ} {p : Piece}
-    (filled : Filled lent buffer done)
-    (back : (length part ≡ length (midOf done (length buffer - done) buffer)) × (length (putMid done (length buffer - done) buffer part) ≡ length buffer))
-    (is : p ≡ P.Bytes n)
-    (within : PieceWithin p (length part))
-  where
-    pub more : (0 < n) × (done + n ≤ length buffer)
-    more =
-        let free : length (midOf done (length buffer - done) buffer) ≡ length buffer - done = mid-len done (length buffer) buffer (omega arith) in
-        let got = bytes-within is within in
-        (got .0, omega (arith, got .1, back .0, free, filled .bound))
+-- what one turn does: a read into the part that is still free gave n bytes
+pub record Turn (lent buffer part : List ℕ) (filled n : ℕ) : Type 0 where
+  pub room : filled + n ≤ length buffer
+  pub again : Filled lent (putMid filled (length buffer - filled) buffer part) (filled + n)
+  pub less : length (putMid filled (length buffer - filled) buffer part) - (filled + n) < length buffer - filled
 
-    pub filled-more : Filled lent (putMid done (length buffer - done) buffer part) (done + n)
-    filled-more = record { size = back .1 ∙ filled .size; bound = omega (arith, back .1, more .1) }
-
-    pub less-free : length (putMid done (length buffer - done) buffer part) - (done + n) < length buffer - done
-    less-free = omega (arith, back .1, more .0, more .1)
-
--- a buffer that is full
-pub up-to-full : (i : Input) {done most : ℕ} → done ≤ most → InputWithin i done → InputWithin i most
-up-to-full (I.Whole n) h w = omega arith
-up-to-full I.TooLong h w = tt
-up-to-full I.Failed h w = tt
+pub turn :
+    {lent buffer : List ℕ} (part : List ℕ) {filled n : ℕ} {p : Piece} → Filled lent buffer filled
+    → (length part ≡ length (midOf filled (length buffer - filled) buffer)) × (length (putMid filled (length buffer - filled) buffer part) ≡ length buffer)
+    → p ≡ P.Bytes n
+    → PieceWithin p (length part)
+    → Turn lent buffer part filled n
+turn {lent} {buffer} part {filled} {n} so-far back is within =
+    let free : length (midOf filled (length buffer - filled) buffer) ≡ length buffer - filled = mid-len filled (length buffer) buffer (omega arith) in
+    let got = bytes-within is within in
+    let room : filled + n ≤ length buffer = omega (arith, got .1, back .0, free, so-far .bound) in
+    record {
+      room = room;
+      again = record { size = back .1 ∙ so-far .size; bound = omega (arith, back .1, room) };
+      less = omega (arith, back .1, got .0, room);
+    }

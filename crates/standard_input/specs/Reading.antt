@@ -1,7 +1,5 @@
--- What the counts of reading promise (01 "The statement program": "Reads one month file from standard input."). Which bytes were read, no contract can say.
+-- What the count of one read promises (01 "The statement program": "Reads one month file from standard input."). Which bytes were read, no contract can say.
 use Prim.Native.Nat.{ℕ, _≤_, _<_}
-use Rattle.standard_input.specs.declared.Input.{Input}
-use Rattle.standard_input.specs.declared.Input.the-variants as I
 use Rattle.standard_input.specs.declared.Piece.{Piece}
 use Rattle.standard_input.specs.declared.Piece.the-variants as P
 
@@ -10,9 +8,3 @@ abbrev pub PieceWithin : Piece → ℕ → Type 0
 PieceWithin (P.Bytes n) most = (0 < n) × (n ≤ most)
 PieceWithin P.End most = Unit
 PieceWithin P.Failed most = Unit
-
--- an input that was read whole is no longer than the buffer
-abbrev pub InputWithin : Input → ℕ → Type 0
-InputWithin (I.Whole n) most = n ≤ most
-InputWithin I.TooLong most = Unit
-InputWithin I.Failed most = Unit

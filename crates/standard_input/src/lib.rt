@@ -1,11 +1,12 @@
 // Standard input, as the programs use it: a month file is read piece by piece, however many reads it takes.
 //
-// What is proved: each function is safe and ends, given that each read returns; and an input that was read whole lies within the buffer. What no contract can say,
-// since that of `libc::read` speaks of the count of one call alone: that the bytes of the buffer are those of standard input, all of them. tests/streams tries that on
-// the running programs. Each program writes by itself: of `io::write_all` nothing is promised, so nothing could be promised of a public function that calls it.
+// What is proved: each function is safe and ends, given that each read returns; and what was read lies within the buffer. What no contract can say, since that of
+// `libc::read` speaks of the count of one call alone: that the bytes of the buffer are those of standard input, all of them. tests/streams tries that on the running
+// programs. Each program writes by itself: of `io::write_all` nothing is promised, so nothing could be promised of a public function that calls it.
 use libc::STDIN_FILENO;
 ghost use lib.ListN.{length};
-ghost use Rattle.standard_input.specs.Reading.{PieceWithin, InputWithin};
+ghost use Prim.Native.Nat.{_≤_};
+ghost use Rattle.standard_input.specs.Reading.{PieceWithin};
 
 // What one read gives: bytes at the start of the part it was lent, the end of the input, or a failure.
 enum Piece {
@@ -14,11 +15,17 @@ enum Piece {
     Failed,
 }
 
-// What standard input gives: the whole of it in the buffer, more than the buffer holds, or a failure.
-pub enum Input {
-    Whole(usize),
+// How the reading ends: with the end of the input, with a byte more than the buffer holds, or with a failure.
+pub enum Ending {
+    Whole,
     TooLong,
     Failed,
+}
+
+// So many bytes of the buffer are filled, and how that ended. A count of its own, so that a program that hands on this part of the buffer needs no proof.
+pub struct Input {
+    pub filled: usize,
+    pub ending: Ending,
 }
 
 // One read into a part that is not empty. Only an answer of 0 is the end of the input; -1 is a failure for whatever reason, since `libc` does not show it. (A read
@@ -37,36 +44,44 @@ fn read_piece(part: &mut [u8]) -> Piece
 }
 
 // After a full buffer: a byte more is an input that is too long.
-fn read_past(full: usize) -> Input
-    ensures { λ i. ⌜ InputWithin i full ⌝ }
-{
+fn read_past() -> Ending {
     let mut more = [0u8; 1];
     let piece = read_piece(&mut more);
     match piece {
-        Piece::Bytes(_) => Input::TooLong,
-        Piece::End => Input::Whole(full),
-        Piece::Failed => Input::Failed,
+        Piece::Bytes(_) => Ending::TooLong,
+        Piece::End => Ending::Whole,
+        Piece::Failed => Ending::Failed,
     }
 }
 
 // "Reads one month file from standard input.": piece by piece, however it arrives, until it ends or is too long.
 pub fn read_month(buffer: &mut [u8]) -> Input
-    ensures { λ i. ⌜ InputWithin i (length (now (buffer .exit))) ⌝ }
+    ensures { λ i. ⌜ i .filled ≤ length (now (buffer .exit)) ⌝ }
 {
-    let mut done: usize = 0;
-    while done < buffer.len() {
-        let piece = read_piece(&mut buffer[done..]);
+    let mut filled: usize = 0;
+    while filled < buffer.len() {
+        let piece = read_piece(&mut buffer[filled..]);
         match piece {
             Piece::Bytes(n) => {
-                done += n;
+                filled += n;
             }
             Piece::End => {
-                return Input::Whole(done);
+                return Input {
+                    filled: filled,
+                    ending: Ending::Whole,
+                };
             }
             Piece::Failed => {
-                return Input::Failed;
+                return Input {
+                    filled: filled,
+                    ending: Ending::Failed,
+                };
             }
         }
     }
-    read_past(done)
+    let ending = read_past();
+    Input {
+        filled: filled,
+        ending: ending,
+    }
 }

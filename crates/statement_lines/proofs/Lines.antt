@@ -1,6 +1,5 @@
 -- A line of the statement from the texts put one after the other. Each law takes what the parts' functions promise.
 use mathlib.Core.List.{List, _++_, append-assoc}
-use mathlib.Core.Path.{sym}
 use Prim.Native.Nat.{ℕ}
 use lib.IntN.{ℤ}
 use mir.Facts.{toZ-ofZ}
@@ -9,23 +8,22 @@ use mir.Val.{SFits, toZ, ofZ}
 use Rattle.rules.specs.Statement.{decimal, signedDecimal, digitsOfWidth, newline, headingText, columnsLine}
 use Rattle.rules.specs.Words.{ascii}
 use Rattle.text.specs.Text.{Put}
-use Rattle.text.proofs.Puts.{put-then, put-as}
-
--- a word and its number after what is put already
-pair : {x b m a : List ℕ} {p q e : ℕ} (y z : List ℕ) → Put x b p m q → Put (y ++ z) m q a e → Put (x ++ y ++ z) b p a e
-pair {x} y z h k = put-as (sym (append-assoc x y z)) (put-then h k)
+use Rattle.text.proofs.Puts.{put-then, put-pair, put-as}
 
 module _ {b : List ℕ} {p : ℕ} where
   pub area-month : (area year month : ℕ) {m m′ a : List ℕ} {q q′ e : ℕ} → Put (ascii "area " ++ digitsOfWidth 3 area) b p m q → Put (ascii " " ++ decimal year) m q m′ q′
       → Put (ascii "-" ++ digitsOfWidth 2 month) m′ q′ a e
       → Put (ascii "area " ++ digitsOfWidth 3 area ++ ascii " " ++ decimal year ++ ascii "-" ++ digitsOfWidth 2 month) b p a e
-  area-month area year month h k l = pair (ascii "-") _ (pair (ascii " ") _ h k) l
+  area-month area year month h k l = put-pair (ascii "-") _ (put-pair (ascii " ") _ h k) l
 
-  pub counts : (hours parties estimated : ℕ) {m m′ m″ a : List ℕ} {q q′ q″ e : ℕ} → Put (ascii " hours " ++ decimal hours) b p m q → Put (ascii " parties " ++ decimal parties) m q m′ q′
+  pub counts :
+      (hours parties estimated : ℕ) {m m′ m″ a : List ℕ} {q q′ q″ e : ℕ}
+      → Put (ascii " hours " ++ decimal hours) b p m q
+      → Put (ascii " parties " ++ decimal parties) m q m′ q′
       → Put (ascii " estimated " ++ decimal estimated) m′ q′ m″ q″
       → Put newline m″ q″ a e
       → Put (ascii " hours " ++ decimal hours ++ ascii " parties " ++ decimal parties ++ ascii " estimated " ++ decimal estimated ++ newline) b p a e
-  counts hours parties estimated h k l n = put-then (pair (ascii " estimated ") _ (pair (ascii " parties ") _ h k) l) n
+  counts hours parties estimated h k l n = put-then (put-pair (ascii " estimated ") _ (put-pair (ascii " parties ") _ h k) l) n
 
   pub heading : (area year month hours parties estimated : ℕ) {m a : List ℕ} {q e : ℕ}
       → Put (ascii "area " ++ digitsOfWidth 3 area ++ ascii " " ++ decimal year ++ ascii "-" ++ digitsOfWidth 2 month) b p m q
@@ -34,11 +32,12 @@ module _ {b : List ℕ} {p : ℕ} where
   unfolding headingText
   heading area year month hours parties estimated h k = put-as (simp append-assoc) (put-then h k)
 
-  pub name-energies : {distributed : ℤ} → SFits w64 distributed → (periodised : ℕ) {name m m′ a : List ℕ} {q q′ e : ℕ} → Put name b p m q
-      → Put (ascii " " ++ signedDecimal (toZ w64 (ofZ w64 distributed))) m q m′ q′
-      → Put (ascii " " ++ decimal periodised) m′ q′ a e
+  pub name-energies :
+      {distributed : ℤ} → SFits w64 distributed → (periodised : ℕ) {name m a : List ℕ} {q e : ℕ}
+      → Put name b p m q
+      → Put (ascii " " ++ signedDecimal (toZ w64 (ofZ w64 distributed)) ++ ascii " " ++ decimal periodised) m q a e
       → Put (name ++ ascii " " ++ signedDecimal distributed ++ ascii " " ++ decimal periodised) b p a e
-  name-energies f periodised h k l = rw (toZ-ofZ f) at (pair (ascii " ") _ (pair (ascii " ") _ h k) l)
+  name-energies f periodised h k = put-as (rw (toZ-ofZ f) (simp append-assoc)) (put-then h k)
 
   pub results : {loss difference ore : ℤ} → SFits w64 loss → SFits w64 difference → SFits w64 ore → {m m′ m″ a : List ℕ} {q q′ q″ e : ℕ}
       → Put (ascii " " ++ signedDecimal (toZ w64 (ofZ w64 loss))) b p m q
@@ -47,11 +46,21 @@ module _ {b : List ℕ} {p : ℕ} where
       → Put newline m″ q″ a e
       → Put (ascii " " ++ signedDecimal loss ++ ascii " " ++ signedDecimal difference ++ ascii " " ++ signedDecimal ore ++ newline) b p a e
   results f g i h k l n =
-      rw (toZ-ofZ f, toZ-ofZ g, toZ-ofZ i) at (put-then (pair (ascii " ") _ (pair (ascii " ") _ h k) l) n)
+      rw (toZ-ofZ f, toZ-ofZ g, toZ-ofZ i) at (put-then (put-pair (ascii " ") _ (put-pair (ascii " ") _ h k) l) n)
 
-  pub columns : {distributed loss difference ore : ℤ} → SFits w64 distributed → SFits w64 loss → SFits w64 difference → SFits w64 ore → (name : List ℕ) (periodised : ℕ) {m a : List ℕ} {q e : ℕ}
+  pub columns :
+      {distributed loss difference ore : ℤ}
+      → SFits w64 distributed
+      → SFits w64 loss
+      → SFits w64 difference
+      → SFits w64 ore → (name : List ℕ) (periodised : ℕ) {m a : List ℕ} {q e : ℕ}
       → Put (name ++ ascii " " ++ signedDecimal (toZ w64 (ofZ w64 distributed)) ++ ascii " " ++ decimal periodised) b p m q
-      → Put (ascii " " ++ signedDecimal (toZ w64 (ofZ w64 loss)) ++ ascii " " ++ signedDecimal (toZ w64 (ofZ w64 difference)) ++ ascii " " ++ signedDecimal (toZ w64 (ofZ w64 ore)) ++ newline) m q a e
+      → Put
+      (ascii " " ++ signedDecimal (toZ w64 (ofZ w64 loss)) ++ ascii " " ++ signedDecimal (toZ w64 (ofZ w64 difference))
+      ++ ascii " "
+      ++ signedDecimal (toZ w64 (ofZ w64 ore))
+      ++ newline)
+      m q a e
       → Put (columnsLine name distributed periodised loss difference ore) b p a e
   unfolding columnsLine
   columns d f g i name periodised h k = put-as (rw (toZ-ofZ d, toZ-ofZ f, toZ-ofZ g, toZ-ofZ i) (simp append-assoc)) (put-then h k)

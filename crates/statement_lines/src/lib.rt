@@ -2,6 +2,8 @@
 // total. Each function writes from a place on and answers the place after what it wrote.
 use text::put_bytes;
 use text::put_column;
+use text::put_energies;
+use text::put_unsigned;
 use text::put_word_number;
 use text::put_word_width;
 ghost use mathlib.Core.List.{_++_};
@@ -24,7 +26,7 @@ fn put_area_month(out: &mut [u8], place: usize, area: u64, year: u64, month: u64
     ensures within { λ end. ⌜ end ≤ place + areaMonthRoom ⌝ }
 {
     let after_area = put_word_width(out, place, b"area ", 3, area);
-    let after_year = put_word_number(out, after_area, b" ", year);
+    let after_year = put_unsigned(out, after_area, year);
     put_word_width(out, after_year, b"-", 2, month)
 }
 
@@ -72,8 +74,7 @@ fn put_name_energies(
     ensures within { λ end. ⌜ end ≤ place + nameEnergiesRoom ⌝ }
 {
     let after_name = put_bytes(out, place, name);
-    let after_distributed = put_column(out, after_name, distributed_wh);
-    put_word_number(out, after_distributed, b" ", periodised_wh)
+    put_energies(out, after_name, distributed_wh, periodised_wh)
 }
 
 // The last columns: "loss, difference .. and invoice øre", and the newline

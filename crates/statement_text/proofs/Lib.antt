@@ -1,4 +1,5 @@
 pub mod Totals
 pub mod PartyLines
 pub mod Statements
+pub mod Texts
 pub mod Unique

@@ -16,11 +16,12 @@ use Rattle.month_sums.specs.declared.Outcome.{Outcome}
 use Rattle.file_sections.specs.Walk.{Accepted}
 use Rattle.file_sections.specs.declared.Sections.{Sections}
 use Rattle.file_sections.proofs.AcceptedFile.{read-as, heading-text}
+use Rattle.rules.specs.Limits.{mostParties}
 use Rattle.rules.specs.Month.{monthOf, monthVerdict, verdictOn, fileVerdict}
 use Rattle.rules.specs.MonthFile.{MonthFile, readMonth}
 use Rattle.rules.specs.Refusals as R
 use Rattle.rules.specs.Statement as T
-use Rattle.statement_text.specs.Lines.{Settled, partyLines, statementRoom}
+use Rattle.statement_text.specs.Lines.{Settled, allPartyLines, statementRoom}
 use Rattle.statement_text.specs.Stating.{textVerdict, Promised}
 use Rattle.statement_text.specs.declared.Stated.the-variants as S
 use Rattle.statement_lines.specs.Rooms.{headingRoom, columnsRoom}
@@ -40,17 +41,20 @@ module _ (file : List ℕ) (s : Sections) (ok : Accepted file s) {outcome : Outc
   -- THE LINES ONE AFTER THE OTHER
   module _ {before out₁ : List ℕ} {end₁ : ℕ} (h : Put (T.headingText (s .heading .area) (s .heading .year) (s .heading .month) (s .heading .hours) (s .heading .parties) (outcome .estimated)) before 0 out₁ end₁)
       (h-within : end₁ ≤ 0 + headingRoom) where
-    pub room-for-parties : statementRoom ≤ length before → end₁ + 64 * columnsRoom ≤ length out₁
+    pub room-for-parties : statementRoom ≤ length before → end₁ + mostParties * columnsRoom ≤ length out₁
     room-for-parties room = omega (arith, put-length h)
 
-    module _ {out₂ : List ℕ} {end₂ : ℕ} (p : LinePut (partyLines m) out₁ end₁ (64 * columnsRoom) out₂ end₂) where
+    module _ {out₂ : List ℕ} {end₂ : ℕ} (p : LinePut (allPartyLines m) out₁ end₁ (mostParties * columnsRoom) out₂ end₂) where
       pub room-for-total : statementRoom ≤ length before → end₂ + columnsRoom ≤ length out₂
       room-for-total room = omega (arith, put-length h, put-length (p .put), p .within)
 
       pub all-lines : {after : List ℕ} {end : ℕ} → LinePut (T.totalLine m) out₂ end₂ columnsRoom after end → LinePut (T.statementLines m) before 0 statementRoom after end
       unfolding T.statementLines
       all-lines t =
-          record { put = put-then (put-then (put-as (heading-text file s ok (is .estimated (ap said done))) h) (p .put)) (t .put); within = omega (arith, p .within, t .within) }
+          record {
+            put = put-then (put-then (put-as (heading-text file s ok (is .estimated (ap said done))) h) (p .put)) (t .put);
+            within = omega (arith, p .within, t .within);
+          }
 
   -- THE STATEMENT OF THE FILE IS THESE LINES
   statement-is : T.statement file ≡ T.statementLines m
@@ -68,20 +72,28 @@ module _ (file : List ℕ) (s : Sections) (ok : Accepted file s) {outcome : Outc
   pub too-short : (old : List ℕ) → length old < statementRoom → Promised file old (S.Refused WrongLength 0) old
   unfolding R.answer R.afterwards R.unless
   too-short old b =
-      let v : textVerdict file (length old) ≡ R.refused R.wrongLength 0 = text-verdict (length old) ∙ ap (λ (t : Bool). R.unless t R.wrongLength 0) (lt-leb statementRoom (length old) b) in
+      let v : textVerdict file (length old) ≡ R.refused R.wrongLength 0 =
+      text-verdict (length old) ∙ ap (λ (t : Bool). R.unless t R.wrongLength 0) (lt-leb statementRoom (length old) b) in
       record { answer = ap (λ (w : R.Verdict). R.answer w (length (T.statement file))) (sym v); contents = refl }
 
   pub stated : {old new : List ℕ} {n : ℕ} → statementRoom ≤ length old → LinePut (T.statementLines m) old 0 statementRoom new n → Promised file old (S.Lines n) new
   unfolding R.answer R.afterwards R.unless atStart
   stated {old} {new} {n} room l =
-      let v : textVerdict file (length old) ≡ R.accepted = text-verdict (length old) ∙ ap (λ (t : Bool). R.unless t R.wrongLength 0) (le-leb statementRoom (length old) room) in
-      record { answer = ap R.given (omega (arith, l .put .ends) ∙ ap length (sym statement-is)) ∙ ap (λ (w : R.Verdict). R.answer w (length (T.statement file))) (sym v); contents = put-at-start (l .put) (omega (arith, l .within)) ∙ ap (λ (t : List ℕ). t ++ drop (length t) old) (sym statement-is) }
+      let v : textVerdict file (length old) ≡ R.accepted =
+      text-verdict (length old) ∙ ap (λ (t : Bool). R.unless t R.wrongLength 0) (le-leb statementRoom (length old) room) in
+      record {
+        answer =
+            ap R.given (omega (arith, l .put .ends) ∙ ap length (sym statement-is))
+            ∙ ap (λ (w : R.Verdict). R.answer w (length (T.statement file))) (sym v);
+        contents = put-at-start (l .put) (omega (arith, l .within)) ∙ ap (λ (t : List ℕ). t ++ drop (length t) old) (sym statement-is);
+      }
 
 -- a refused file: nothing is written
 pub refused-file : (file : List ℕ) (x : Refusal) (place : ℕ) (old : List ℕ) → fileVerdict file ≡ R.refused (named x) place → Promised file old (S.Refused x place) old
 unfolding R.answer R.afterwards textVerdict R.andThen
 refused-file file x place old e =
-    let v : textVerdict file (length old) ≡ R.refused (named x) place = ap (λ (w : R.Verdict). R.andThen w (R.unless (leb statementRoom (length old)) R.wrongLength 0)) e in
+    let v : textVerdict file (length old) ≡ R.refused (named x) place =
+    ap (λ (w : R.Verdict). R.andThen w (R.unless (leb statementRoom (length old)) R.wrongLength 0)) e in
     record { answer = ap (λ (w : R.Verdict). R.answer w (length (T.statement file))) (sym v); contents = refl }
 
 -- and its statement is its refusal line

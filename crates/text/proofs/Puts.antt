@@ -1,5 +1,5 @@
 -- Texts put one after the other: two puts are the put of the appended text, and one byte more is such a put.
-use mathlib.Core.List.{List, [], _∷_, _++_}
+use mathlib.Core.List.{List, [], _∷_, _++_, append-assoc}
 use mathlib.Core.Path.{_≡_, refl, sym, _∙_, ap, ap₂}
 use Prim.Native.Nat.{ℕ, _+_, _≤_, _<_, zero-le}
 use native.Mathlib.Nat.{zero-add, add-zero}
@@ -21,6 +21,10 @@ put-then {x} {y} {b} {m} {a} {p} {q} {e} h k =
       is = k .is ∙ ap₂ (λ (l : List ℕ) (i : ℕ). sets l i y) (h .is) (h .ends) ∙ sets-append b p x y;
       ends = omega (arith, h .ends, k .ends, length-append x y);
     }
+
+-- a word and its number after what is put already
+pub put-pair : {x b m a : List ℕ} {p q e : ℕ} (y z : List ℕ) → Put x b p m q → Put (y ++ z) m q a e → Put (x ++ y ++ z) b p a e
+put-pair {x} {b} {m} {a} {p} {q} {e} y z h k = rw (append-assoc x y z) (put-then h k)
 
 -- the same text by another name
 pub put-as : {x y b a : List ℕ} {p e : ℕ} → x ≡ y → Put x b p a e → Put y b p a e

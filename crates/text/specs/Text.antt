@@ -2,9 +2,10 @@
 -- The texts themselves stand in the rules.
 use mathlib.Core.List.{List, _++_}
 use mathlib.Core.Path.{_≡_}
-use Prim.Native.Nat.{ℕ, _+_, _≤_}
+use Prim.Native.Nat.{ℕ, _+_, _*_, _≤_}
 use lib.ListN.{length, drop}
 use lib.Seq.{sets}
+use Rattle.rules.specs.Limits.{glnDigits}
 
 -- a text stands in a buffer from a place on, and nothing else in it was touched; the place after the text is told
 pub record Put (text before : List ℕ) (place : ℕ) (after : List ℕ) (end : ℕ) : Type 0 where
@@ -20,17 +21,21 @@ pub record LinePut (text before : List ℕ) (place room : ℕ) (after : List ℕ
 abbrev pub mostDigits : ℕ
 mostDigits = 20
 
--- a name before columns: a GLN's 13 bytes at most
+-- a name before columns: a GLN at most
 abbrev pub longestName : ℕ
-longestName = 13
+longestName = glnDigits
 
 -- a column: a space and a number
 abbrev pub columnRoom : ℕ
-columnRoom = 21
+columnRoom = 1 + mostDigits
+
+-- two columns
+abbrev pub energiesRoom : ℕ
+energiesRoom = 2 * columnRoom
 
 -- the most bytes of a refusal line: "refused " 8, its number 2, " at " 4, the place 20, and the newline
 abbrev pub longestRefusalLine : ℕ
-longestRefusalLine = 35
+longestRefusalLine = 8 + 2 + 4 + mostDigits + 1
 
 -- a text at the start of a lent buffer, "nothing further on touched"
 unfoldable pub atStart : List ℕ → List ℕ → List ℕ

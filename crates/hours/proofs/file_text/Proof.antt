@@ -27,7 +27,9 @@ same-length-3 : tie.Need-same-length-3
 same-length-3 c = search needs
 
 returns : tie.Need-returns
-returns c = lines-printed _ _ _ _ (c .before .before .before .before .before .before .before .before .before .report .ensures) (c .before .reported .given .1)
+returns c =
+    let after-report = c .before .before .before .before .before .before .before .before .before in
+    lines-printed _ _ _ _ (after-report .report .ensures) (c .before .reported .given .1)
 
 same-length-4 : tie.Need-same-length-4
 same-length-4 c = search needs
@@ -39,7 +41,15 @@ same-length-6 : tie.Need-same-length-6
 same-length-6 c = search needs
 
 returns-2 : tie.Need-returns-2
-returns-2 c = refusal-printed _ _ _ _ (c .before .before .before .before .before .before .before .before .before .before .before .before .before .report .ensures) (c .before .before .before .before .before .before .before .before .before .before .before .before .before .before .before .before .before .before .before .before .before .pre) (c .before .before .before .before .before .reported2 .given .1) (c .before .before .put-refusal .ensures .0) (omega (arith, c .before .before .put-refusal .ensures .1, c .before .before .before .before .before .before .before .before .before .before .before .before .before .before .before .before .before .before .before .before .before .pre .first-room, c .before .before .before .before .before .before .before .before .before .before .before .before .first .given))
+returns-2 c =
+    let after-put-refusal = c .before .before in
+    let after-reported2 = after-put-refusal .before .before .before in
+    let after-first = after-reported2 .before .before .before .before .before .before .before in
+    let after-report = after-first .before in
+    let start = after-report .before .before .before .before .before .before .before .before in
+    refusal-printed _ _ _ _ (after-report .report .ensures) (start .pre) (after-reported2 .reported2 .given .1)
+    (after-put-refusal .put-refusal .ensures .0)
+    (omega (arith, after-put-refusal .put-refusal .ensures .1, start .pre .first-room, after-first .first .given))
 
 pub file-text-spec : {M : Type 1} → statement M
 file-text-spec =

@@ -25,7 +25,16 @@ same-length c = search needs
 
 returns : tie.Need-returns
 unfolding newline
-returns c = (distances (c .before .before .before .before .before .before .before .before .before .before .before .before .before .before .before .before .before .before .before .fits .smallest) (c .before .before .before .before .before .before .before .before .before .before .before .before .before .before .before .before .before .before .before .fits .largest) _ _ (c .before .before .before .before .before .before .before .before .before .before .before .before .before .before .before .put-bytes .ensures) (c .before .before .before .before .before .before .before .before .before .before .before .put-fraction .ensures .0) (c .before .before .before .before .before .before .before .put-fraction2 .ensures .0) (c .before .before .put-bytes2 .ensures), search needs)
+returns c =
+    let after-put-bytes2 = c .before .before in
+    let after-put-fraction2 = after-put-bytes2 .before .before .before .before .before in
+    let after-put-fraction = after-put-fraction2 .before .before .before .before in
+    let after-put-bytes = after-put-fraction .before .before .before .before in
+    let start = after-put-bytes .before .before .before .before in (
+      distances (start .fits .smallest) (start .fits .largest) _ _ (after-put-bytes .put-bytes .ensures)
+          (after-put-fraction .put-fraction .ensures .0) (after-put-fraction2 .put-fraction2 .ensures .0) (after-put-bytes2 .put-bytes2 .ensures),
+      search needs,
+    )
 
 pub distances-line-spec : {M : Type 1} → statement M
 distances-line-spec =

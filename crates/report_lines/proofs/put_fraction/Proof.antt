@@ -19,7 +19,11 @@ same-length c = search needs
 
 returns : tie.Need-returns
 unfolding ascii
-returns c = (fraction-column (c .before .before .before .before .before .before .before .before .before .before .fits .n) _ (c .before .before .before .before .before .before .before .put-column .ensures .0) (c .before .before .put-word-number .ensures .0), search needs)
+returns c =
+    let after-put-word-number = c .before .before in
+    let after-put-column = after-put-word-number .before .before .before .before .before in
+    let start = after-put-column .before .before .before in
+    (fraction-column (start .fits .n) _ (after-put-column .put-column .ensures .0) (after-put-word-number .put-word-number .ensures .0), search needs)
 
 pub put-fraction-spec : {M : Type 1} → statement M
 put-fraction-spec =

@@ -14,8 +14,11 @@ enum-known-read c = search needs
 enum-known-read-2 : tie.Need-enum-known-read-2
 enum-known-read-2 c = search needs
 
-report-read-requires : tie.Need-report-read-requires
-report-read-requires c κs = is-read _ (c .before .before .before .before .before .before .read .ensures) (c .before .before .before .before .read3 .given .1)
+after-reading-requires : tie.Need-after-reading-requires
+after-reading-requires c κs =
+    let after-read3 = c .before .before .before .before in
+    let after-read = after-read3 .before .before in
+    is-read _ (after-read .read .ensures) (after-read3 .read3 .given .1)
 
 returns : tie.Need-returns
 returns c = refused-file _ _ _ _ _ _ (not-read _ (c .before .before .before .read .ensures) (c .before .read2 .given .1))
@@ -39,7 +42,7 @@ report-spec =
     read-requires
     enum-known-read
     enum-known-read-2
-    report-read-requires
+    after-reading-requires
     returns
     same-length
     same-length-2

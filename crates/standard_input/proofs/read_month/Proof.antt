@@ -1,18 +1,19 @@
 -- `standard_input::read_month` meets its contract. The loop keeps the buffer's length and fills it piece by piece; the measure is what is still free.
 -- Assumes nothing.
-use Prim.Native.Nat.{_-_}
+use mathlib.Core.List.{List}
+use Prim.Native.Nat.{ℕ, _-_}
 use native.Mathlib.Omega.{arith}
 use borrow.Author.Needs.{needs}
 use lib.ListN.{length}
-use Rattle.standard_input.proofs.Counts.{Filled, more, less-free, filled-more, up-to-full}
+use Rattle.standard_input.proofs.Counts.{Filled, Turn, turn}
 use Rattle.standard_input.proofs.read_month.Statement.{statement}
 use Rattle.standard_input.proofs.read_month.Tie as tie
 
 abbrev Inv-loop : tie.InvT-loop
-Inv-loop buffer₀ done₀ buffer done = Filled buffer₀ buffer done
+Inv-loop buffer₀ filled₀ buffer filled = Filled buffer₀ buffer filled
 
 abbrev μ-loop : tie.MeasureT-loop
-μ-loop buffer₀ done₀ buffer done = length buffer - done
+μ-loop buffer₀ filled₀ buffer filled = length buffer - filled
 
 loop-holds : tie.Need-loop-holds Inv-loop μ-loop
 loop-holds c = search needs
@@ -32,14 +33,32 @@ read-piece-requires c κs = search needs
 enum-known-piece : tie.Need-enum-known-piece Inv-loop μ-loop
 enum-known-piece c = search needs
 
-add-done : tie.Need-add-done Inv-loop μ-loop
-add-done c = omega (arith, more (c .before .before .before .before .before .read-piece .last .0) (c .before .before .before .before .before .before .before .before .loop .inv) (c .before .before .before .before .buffer .given) (c .before .piece .given .1) (c .before .before .before .before .before .read-piece .ensures) .1)
+-- a read that gave bytes: the places that it is known from
+abbrev reading : tie.After-known-told Inv-loop μ-loop → tie.After-read-piece Inv-loop μ-loop
+reading c = c .before .before .before .before .before
+
+abbrev loop : tie.After-known-told Inv-loop μ-loop → tie.At-loop Inv-loop μ-loop
+loop c = reading c .before .before .before
+
+abbrev part : tie.After-known-told Inv-loop μ-loop → List ℕ
+part c = reading c .read-piece .last .0
+
+-- and what such a turn does
+turned :
+    (c : tie.After-known-told Inv-loop μ-loop)
+    → Turn (loop c .before .before .args .buffer .now) (loop c .loop .buffer) (part c) (loop c .loop .filled) (c .before .piece .given .0 .0)
+turned c =
+    turn (part c) (loop c .loop .inv) (c .before .before .before .before .buffer .given) (c .before .piece .given .1)
+    (reading c .read-piece .ensures)
+
+add-filled : tie.Need-add-filled Inv-loop μ-loop
+add-filled c = omega (arith, turned c .room)
 
 loop-less : tie.Need-loop-less Inv-loop μ-loop
-loop-less c = less-free (c .before .before .before .before .before .read-piece .last .0) (c .before .before .before .before .before .before .before .before .loop .inv) (c .before .before .before .before .buffer .given) (c .before .piece .given .1) (c .before .before .before .before .before .read-piece .ensures)
+loop-less c = turned c .less
 
 loop-again : tie.Need-loop-again Inv-loop μ-loop
-loop-again c = filled-more (c .before .before .before .before .before .read-piece .last .0) (c .before .before .before .before .before .before .before .before .loop .inv) (c .before .before .before .before .buffer .given) (c .before .piece .given .1) (c .before .before .before .before .before .read-piece .ensures)
+loop-again c = turned c .again
 
 enum-told : tie.Need-enum-told Inv-loop μ-loop
 enum-told c = search needs
@@ -66,7 +85,7 @@ same-length-3 : tie.Need-same-length-3 Inv-loop μ-loop
 same-length-3 c = search needs
 
 returns-3 : tie.Need-returns-3 Inv-loop μ-loop
-returns-3 c = up-to-full (c .read-past .result) (c .before .before .loop .inv .bound) (c .read-past .ensures)
+returns-3 c = search needs
 
 pub read-month-spec : {M : Type 1} → statement M
 read-month-spec =
@@ -80,7 +99,7 @@ read-month-spec =
     part-read-piece-end
     read-piece-requires
     enum-known-piece
-    add-done
+    add-filled
     loop-less
     loop-again
     enum-told

@@ -1,7 +1,6 @@
 -- `statement::file_text` meets its contract: what is printed is the statement of the file. Assumes nothing.
-use native.Mathlib.Omega.{arith}
 use mathlib.Core.Path.{_∙_}
-use Rattle.statement.proofs.Texts.{statement-printed}
+use Rattle.statement_text.proofs.Texts.{lines-printed, refusal-printed}
 use borrow.Author.Needs.{needs}
 use Rattle.statement.proofs.file_text.Statement.{statement}
 use Rattle.statement.proofs.file_text.Tie as tie
@@ -9,14 +8,43 @@ use Rattle.statement.proofs.file_text.Tie as tie
 statement-requires : tie.Need-statement-requires
 statement-requires c κs = search needs
 
-answer-text-requires : tie.Need-answer-text-requires
-answer-text-requires c κs = (omega (arith, c .before .before .before .before .before .before .before .pre, c .before .before .out .given), statement-printed _ _ (c .before .before .before .before .before .before .before .pre) _ (c .before .before .before .statement .ensures) .0)
+enum-known-stated : tie.Need-enum-known-stated
+enum-known-stated c = search needs
+
+enum-told : tie.Need-enum-told
+enum-told c = search needs
+
+refusal-line-requires : tie.Need-refusal-line-requires
+refusal-line-requires c κs = search needs
 
 same-length : tie.Need-same-length
 same-length c = search needs
 
 returns : tie.Need-returns
-returns c = (c .before .before .answer-text .ensures .0, c .before .before .answer-text .ensures .1 ∙ statement-printed _ _ (c .before .before .before .before .before .before .before .before .before .before .pre) _ (c .before .before .before .before .before .before .statement .ensures) .1)
+returns c =
+    let line = c .before .before .refusal-line in
+    let refused = c .before .before .before .before in
+    let stating = refused .before .before .before .before in
+    let start = stating .before .before .before .before in
+    (line .ensures .0, line .ensures .1 ∙ refusal-printed _ _ (stating .statement .ensures) (start .pre) (refused .enum-told .given .1))
+
+same-length-2 : tie.Need-same-length-2
+same-length-2 c = search needs
+
+returns-2 : tie.Need-returns-2
+returns-2 c =
+    let stating = c .before .before .before .before .before in
+    lines-printed _ _ (stating .statement .ensures) (c .before .stated .given .1)
 
 pub file-text-spec : {M : Type 1} → statement M
-file-text-spec = tie.close (tie.spec statement-requires answer-text-requires same-length returns)
+file-text-spec =
+    tie.close
+    (tie.spec
+    statement-requires
+    enum-known-stated
+    enum-told
+    refusal-line-requires
+    same-length
+    returns
+    same-length-2
+    returns-2)

@@ -14,7 +14,14 @@ same-length : tie.Need-same-length
 same-length c = search needs
 
 returns : tie.Need-returns
-returns c = (columns (c .before .before .before .before .before .before .before .before .before .before .fits .distributed-wh) (c .before .before .before .before .before .before .before .before .before .before .fits .loss-wh) (c .before .before .before .before .before .before .before .before .before .before .fits .difference-wh) (c .before .before .before .before .before .before .before .before .before .before .fits .ore) _ _ (c .before .before .before .before .before .before .put-name-energies .ensures .0) (c .before .before .put-results .ensures .0), search needs)
+returns c =
+    let after-put-results = c .before .before in
+    let after-put-name-energies = after-put-results .before .before .before .before in
+    let start = after-put-name-energies .before .before .before .before in (
+      columns (start .fits .distributed-wh) (start .fits .loss-wh) (start .fits .difference-wh) (start .fits .ore) _ _
+          (after-put-name-energies .put-name-energies .ensures .0) (after-put-results .put-results .ensures .0),
+      search needs,
+    )
 
 pub columns-line-spec : {M : Type 1} → statement M
 columns-line-spec =

@@ -14,7 +14,10 @@ same-length : tie.Need-same-length
 same-length c = search needs
 
 returns : tie.Need-returns
-returns c = (heading _ _ _ _ _ _ (c .before .before .before .before .before .before .put-area-month .ensures .0) (c .before .before .put-counts .ensures .0), search needs)
+returns c =
+    let after-put-counts = c .before .before in
+    let after-put-area-month = after-put-counts .before .before .before .before in
+    (heading _ _ _ _ _ _ (after-put-area-month .put-area-month .ensures .0) (after-put-counts .put-counts .ensures .0), search needs)
 
 pub heading-line-spec : {M : Type 1} → statement M
 heading-line-spec =

@@ -11,11 +11,8 @@ slice-aggregate-put-word-width c = search needs
 put-word-width-requires : tie.Need-put-word-width-requires
 put-word-width-requires c κs = search needs
 
-slice-aggregate-put-word-number : tie.Need-slice-aggregate-put-word-number
-slice-aggregate-put-word-number c = search needs
-
-put-word-number-requires : tie.Need-put-word-number-requires
-put-word-number-requires c κs = search needs
+put-unsigned-requires : tie.Need-put-unsigned-requires
+put-unsigned-requires c κs = search needs
 
 slice-aggregate-put-word-width-2 : tie.Need-slice-aggregate-put-word-width-2
 slice-aggregate-put-word-width-2 c = search needs
@@ -28,7 +25,14 @@ same-length c = search needs
 
 returns : tie.Need-returns
 unfolding ascii
-returns c = (area-month _ _ _ (c .before .before .before .before .before .before .before .before .before .before .before .before .put-word-width .ensures .0) (c .before .before .before .before .before .before .before .put-word-number .ensures .0) (c .before .before .put-word-width2 .ensures .0), search needs)
+returns c =
+    let after-put-word-width2 = c .before .before in
+    let after-put-unsigned = after-put-word-width2 .before .before .before .before .before in
+    let after-put-word-width = after-put-unsigned .before .before .before .before in (
+      area-month _ _ _ (after-put-word-width .put-word-width .ensures .0) (after-put-unsigned .put-unsigned .ensures .0)
+          (after-put-word-width2 .put-word-width2 .ensures .0),
+      search needs,
+    )
 
 pub put-area-month-spec : {M : Type 1} → statement M
 put-area-month-spec =
@@ -36,8 +40,7 @@ put-area-month-spec =
     (tie.spec
     slice-aggregate-put-word-width
     put-word-width-requires
-    slice-aggregate-put-word-number
-    put-word-number-requires
+    put-unsigned-requires
     slice-aggregate-put-word-width-2
     put-word-width-requires-2
     same-length

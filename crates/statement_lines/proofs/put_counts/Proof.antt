@@ -35,7 +35,15 @@ same-length c = search needs
 
 returns : tie.Need-returns
 unfolding ascii newline
-returns c = (counts _ _ _ (c .before .before .before .before .before .before .before .before .before .before .before .before .before .before .before .before .before .put-word-number .ensures .0) (c .before .before .before .before .before .before .before .before .before .before .before .before .put-word-number2 .ensures .0) (c .before .before .before .before .before .before .before .put-word-number3 .ensures .0) (c .before .before .put-bytes .ensures), search needs)
+returns c =
+    let after-put-bytes = c .before .before in
+    let after-put-word-number3 = after-put-bytes .before .before .before .before .before in
+    let after-put-word-number2 = after-put-word-number3 .before .before .before .before .before in
+    let after-put-word-number = after-put-word-number2 .before .before .before .before .before in (
+      counts _ _ _ (after-put-word-number .put-word-number .ensures .0) (after-put-word-number2 .put-word-number2 .ensures .0)
+          (after-put-word-number3 .put-word-number3 .ensures .0) (after-put-bytes .put-bytes .ensures),
+      search needs,
+    )
 
 pub put-counts-spec : {M : Type 1} → statement M
 put-counts-spec =

@@ -25,7 +25,16 @@ same-length c = search needs
 
 returns : tie.Need-returns
 unfolding newline
-returns c = (results (c .before .before .before .before .before .before .before .before .before .before .before .before .before .before .before .before .before .before .fits .loss-wh) (c .before .before .before .before .before .before .before .before .before .before .before .before .before .before .before .before .before .before .fits .difference-wh) (c .before .before .before .before .before .before .before .before .before .before .before .before .before .before .before .before .before .before .fits .ore) (c .before .before .before .before .before .before .before .before .before .before .before .before .before .before .before .put-column .ensures .0) (c .before .before .before .before .before .before .before .before .before .before .before .put-column2 .ensures .0) (c .before .before .before .before .before .before .before .put-column3 .ensures .0) (c .before .before .put-bytes .ensures), search needs)
+returns c =
+    let after-put-bytes = c .before .before in
+    let after-put-column3 = after-put-bytes .before .before .before .before .before in
+    let after-put-column2 = after-put-column3 .before .before .before .before in
+    let after-put-column = after-put-column2 .before .before .before .before in
+    let start = after-put-column .before .before .before in (
+      results (start .fits .loss-wh) (start .fits .difference-wh) (start .fits .ore) (after-put-column .put-column .ensures .0)
+          (after-put-column2 .put-column2 .ensures .0) (after-put-column3 .put-column3 .ensures .0) (after-put-bytes .put-bytes .ensures),
+      search needs,
+    )
 
 pub put-results-spec : {M : Type 1} → statement M
 put-results-spec =

@@ -45,7 +45,12 @@ put-width-put-digit-requires : (t : ℕ) → put-width-lts.Need-put-digit-requir
   put-digit-reads.Asked,
   put-digit-reads.Learnt,
 ) (put-width-at t) put-width.Post
-put-width-put-digit-requires t c κs = omega (arith, width-size (c .before .before .before .before .before .before .before .args .width - 1) (c .before .before .before .before .before .before .before .args .n / 10))
+put-width-put-digit-requires t c κs =
+    omega (
+      arith,
+      width-size (c .before .before .before .before .before .before .before .args .width - 1)
+          (c .before .before .before .before .before .before .before .args .n / 10),
+    )
 
 put-width-same-length : (t : ℕ) → put-width-lts.Need-same-length (
   put-width-below t,
@@ -61,7 +66,9 @@ put-width-returns-2 : (t : ℕ) → put-width-lts.Need-returns-2 (
   put-digit-reads.Asked,
   put-digit-reads.Learnt,
 ) (put-width-at t) put-width.Post
-put-width-returns-2 t c = put-as (width-more _ _ (c .before .before .before .before .before .before .before .before .if1 .left)) (put-then (c .before .before .before .before .before .before .put-width .ensures) (c .before .before .put-digit .ensures))
+put-width-returns-2 t c =
+    put-as (width-more _ _ (c .before .before .before .before .before .before .before .before .if1 .left))
+    (put-then (c .before .before .before .before .before .before .put-width .ensures) (c .before .before .put-digit .ensures))
 
 pub +put-width-spec : {M : Type 1} → statement M
 +put-width-spec = close μ-put-width λ t. put-width-lts.spec (

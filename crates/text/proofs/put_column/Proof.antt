@@ -19,7 +19,11 @@ same-length c = search needs
 
 returns : tie.Need-returns
 unfolding ascii
-returns c = (column (c .before .before .before .before .before .before .before .before .before .before .fits .z) (c .before .before .before .before .before .before .put-bytes .ensures) (c .before .before .put-signed .ensures .0), search needs)
+returns c =
+    let after-put-signed = c .before .before in
+    let after-put-bytes = after-put-signed .before .before .before .before in
+    let start = after-put-bytes .before .before .before .before in
+    (column (start .fits .z) (after-put-bytes .put-bytes .ensures) (after-put-signed .put-signed .ensures .0), search needs)
 
 pub put-column-spec : {M : Type 1} → statement M
 put-column-spec =

@@ -1,4 +1,5 @@
 -- `text::put_refusal` meets its contract: a number of at most two digits, then the place, and the newline. Assumes nothing.
+use Prim.Native.Nat.{_≤_}
 use native.Mathlib.Omega.{arith}
 use Rattle.answer.specs.Said.{named}
 use Rattle.rules.specs.Statement.{newline}
@@ -23,23 +24,36 @@ put-word-number-requires c κs = search needs
 slice-aggregate-put-word-number-2 : tie.Need-slice-aggregate-put-word-number-2
 slice-aggregate-put-word-number-2 c = search needs
 
-put-word-number-requires-2 : tie.Need-put-word-number-requires-2
+-- what stands before the place: the word and a number of at most two digits
+word-and-number : (c : tie.After-put-word-number) → c .put-word-number .result ≤ 10
 unfolding ascii
-put-word-number-requires-2 c κs = omega (arith, number-ends (named (c .before .before .before .before .before .before .before .before .before .args .refusal)) (c .before .before .before .before .before .before .before .number .ensures) (c .before .before .before .before .put-word-number .ensures .0))
+word-and-number c =
+    let numbered = c .before .before .before in
+    number-ends (named (numbered .before .before .args .refusal)) (numbered .number .ensures) (c .put-word-number .ensures .0)
+
+put-word-number-requires-2 : tie.Need-put-word-number-requires-2
+put-word-number-requires-2 c κs = omega (arith, word-and-number (c .before .before .before .before))
 
 slice-aggregate-put-bytes : tie.Need-slice-aggregate-put-bytes
 slice-aggregate-put-bytes c = search needs
 
 put-bytes-requires : tie.Need-put-bytes-requires
-unfolding ascii
-put-bytes-requires c κs = omega (arith, number-ends (named (c .before .before .before .before .before .before .before .before .before .before .before .before .before .before .args .refusal)) (c .before .before .before .before .before .before .before .before .before .before .before .before .number .ensures) (c .before .before .before .before .before .before .before .before .before .put-word-number .ensures .0))
+put-bytes-requires c κs = omega (arith, word-and-number (c .before .before .before .before .before .before .before .before .before))
 
 same-length : tie.Need-same-length
 same-length c = search needs
 
 returns : tie.Need-returns
 unfolding ascii newline
-returns c = (refusal-text (named (c .before .before .before .before .before .before .before .before .before .before .before .before .before .before .before .before .before .args .refusal)) (c .before .before .before .before .before .before .before .before .before .before .before .before .before .before .before .number .ensures) (c .before .before .before .before .before .before .before .before .before .before .before .before .put-word-number .ensures .0) _ (c .before .before .before .before .before .before .before .put-word-number2 .ensures .0) (c .before .before .put-bytes .ensures), omega (arith, number-ends (named (c .before .before .before .before .before .before .before .before .before .before .before .before .before .before .before .before .before .args .refusal)) (c .before .before .before .before .before .before .before .before .before .before .before .before .before .before .before .number .ensures) (c .before .before .before .before .before .before .before .before .before .before .before .before .put-word-number .ensures .0)))
+returns c =
+    let newline-put = c .before .before in
+    let place-put = newline-put .before .before .before .before .before in
+    let number-put = place-put .before .before .before .before .before in
+    let numbered = number-put .before .before .before in (
+      refusal-text (named (numbered .before .before .args .refusal)) (numbered .number .ensures) (number-put .put-word-number .ensures .0) _
+          (place-put .put-word-number2 .ensures .0) (newline-put .put-bytes .ensures),
+      omega (arith, word-and-number number-put),
+    )
 
 pub put-refusal-spec : {M : Type 1} → statement M
 put-refusal-spec =

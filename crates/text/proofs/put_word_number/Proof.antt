@@ -16,7 +16,11 @@ same-length : tie.Need-same-length
 same-length c = search needs
 
 returns : tie.Need-returns
-returns c = (put-then (c .before .before .before .before .before .before .put-bytes .ensures) (c .before .before .put-number .ensures), omega (arith, number-size (c .before .before .before .before .before .before .before .before .before .before .args .n) (c .before .before .before .before .before .before .before .before .before .before .fits .n .fits)))
+returns c =
+    let after-put-number = c .before .before in
+    let after-put-bytes = after-put-number .before .before .before .before in
+    let start = after-put-bytes .before .before .before .before in
+    (put-then (after-put-bytes .put-bytes .ensures) (after-put-number .put-number .ensures), omega (arith, number-size (start .args .n) (start .fits .n .fits)))
 
 pub put-word-number-spec : {M : Type 1} → statement M
 put-word-number-spec =

@@ -16,7 +16,11 @@ same-length : tie.Need-same-length
 same-length c = search needs
 
 returns : tie.Need-returns
-returns c = (put-then (c .before .before .before .before .before .before .put-bytes .ensures) (c .before .before .put-width .ensures), omega (arith, width-size (c .before .before .before .before .before .before .before .before .before .before .args .width) (c .before .before .before .before .before .before .before .before .before .before .args .n)))
+returns c =
+    let after-put-width = c .before .before in
+    let after-put-bytes = after-put-width .before .before .before .before in
+    let start = after-put-bytes .before .before .before .before in
+    (put-then (after-put-bytes .put-bytes .ensures) (after-put-width .put-width .ensures), omega (arith, width-size (start .args .width) (start .args .n)))
 
 pub put-word-width-spec : {M : Type 1} → statement M
 put-word-width-spec =
