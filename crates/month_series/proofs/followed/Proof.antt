@@ -60,16 +60,16 @@ mul-follows : tie.Need-mul-follows Inv-loop μ-loop
 mul-follows c = search needs
 
 shared-slice-read-follows : tie.Need-shared-slice-read-follows Inv-loop μ-loop
-shared-slice-read-follows c = ends-stand (read (c .before .before .before)) .0
+shared-slice-read-follows c = omega (arith, ends-stand (read (c .before .before .before)))
 
 mul-follows-2 : tie.Need-mul-follows-2 Inv-loop μ-loop
 mul-follows-2 c = search needs
 
 shared-slice-read-follows-2 : tie.Need-shared-slice-read-follows-2 Inv-loop μ-loop
-shared-slice-read-follows-2 c = ends-stand (read (reading-of c)) .1
+shared-slice-read-follows-2 c = omega (arith, ends-stand (read (reading-of c)))
 
 follows-requires : tie.Need-follows-requires Inv-loop μ-loop
-follows-requires c κs = end-not-less (read (reading-of c))
+follows-requires c κs = omega (arith, end-not-less (read (reading-of c)))
 
 -- what the test says of the reading is the test of its check
 tested : (c : tie.After-follows Inv-loop μ-loop) → c .follows .result ≡ followsIn (monthOf (asked (loop-of c) .args .file .now)) (loop-of c .loop .j)
