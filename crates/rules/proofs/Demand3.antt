@@ -4,7 +4,8 @@
 use mathlib.Core.Logic.{_⊎_, inl, inr, ⊎-elim}
 use mathlib.Core.Path.{_≡_, sym, _∙_, ap, ap₂}
 use Prim.Native.Nat.{ℕ, suc, _+_, _-_, _*_, _/_, _≤_, _<_}
-use native.Mathlib.Nat.{le-trans, div-add-mod', mod-lt, le-of-mul-le-mul-right, lt-of-mul-lt-mul-right, le-of-lt, eq-zero-or-pos, eq-or-lt-of-le, mul-le-mul-right, mul-add, mul-zero, div-eq-of-lt-le, add-zero, zero-add, zero-mul}
+use native.Mathlib.Nat.{le-trans, div-add-mod', mod-lt, le-of-mul-le-mul-right, lt-of-mul-lt-mul-right, le-of-lt, eq-zero-or-pos, eq-or-lt-of-le}
+use native.Mathlib.Nat.{mul-le-mul-right, mul-add, mul-zero, div-eq-of-lt-le, add-zero, zero-add, zero-mul}
 use native.Mathlib.Omega.{arith}
 use lib.Dec.{le→leb}
 use lib.IntN.{pos, negsuc, _-ℤ_}
@@ -39,7 +40,8 @@ module _ (n : ℕ) (share : ℕ → ℕ) (some : 0 < W n share) where
   whole r =
       let products : sum n (λ i. share i * r) ≡ sum n share * r = sum-scale n share r in
       let parts : sum n (λ i. share i * r) ≡ sum n (λ i. roundedDown n share r i * sum n share + remainder n share r i) = sum-cong n (λ i b. divided r i) in
-      let split : sum n (λ i. roundedDown n share r i * sum n share + remainder n share r i) ≡ sum n (λ i. roundedDown n share r i * sum n share) + sum n (remainder n share r) = sum-add n (λ i. roundedDown n share r i * sum n share) (remainder n share r) in
+      let split : sum n (λ i. roundedDown n share r i * sum n share + remainder n share r i) ≡ sum n (λ i. roundedDown n share r i * sum n share) + sum n (remainder n share r) =
+      sum-add n (λ i. roundedDown n share r i * sum n share) (remainder n share r) in
       omega (arith, sum-scale n (roundedDown n share r) (sum n share))
 
   floors-at-most : (r : ℕ) → floors r ≤ r
@@ -139,7 +141,8 @@ module _ (n : ℕ) (share : ℕ → ℕ) (some : 0 < W n share) where
   -- the floor of the larger share is not the smaller
   floors-rise : (r i j : ℕ) → share j < share i → roundedDown n share r j ≤ roundedDown n share r i
   floors-rise r i j h =
-      let below : roundedDown n share r j < roundedDown n share r i + 1 = lt-of-mul-lt-mul-right (W n share) (omega (arith, divided r i, divided r j, remainder-below r i, mul-le-mul-right r (le-of-lt h))) in
+      let below : roundedDown n share r j < roundedDown n share r i + 1 =
+      lt-of-mul-lt-mul-right (W n share) (omega (arith, divided r i, divided r j, remainder-below r i, mul-le-mul-right r (le-of-lt h))) in
       omega arith
 
   -- A LARGER SHARE NEVER HAS THE SMALLER SUM
@@ -186,7 +189,9 @@ module _ (n : ℕ) (share : ℕ → ℕ) (some : 0 < W n share) where
         ∙ minus-cong (sum t residual + residual t) (sum t residual) (residual t) 0 (omega arith)
         ∙ pos-minus-zero (residual t)
 
-    hours-rounded : (hours i : ℕ) → (sumSinceFirst n share residual hours i ≡ pos (down (W n share) (exactShare share (sum hours residual) i))) ⊎ (sumSinceFirst n share residual hours i ≡ pos (up (W n share) (exactShare share (sum hours residual) i)))
+    hours-rounded :
+        (hours i : ℕ)
+        → (sumSinceFirst n share residual hours i ≡ pos (down (W n share) (exactShare share (sum hours residual) i))) ⊎ (sumSinceFirst n share residual hours i ≡ pos (up (W n share) (exactShare share (sum hours residual) i)))
     unfolding runningAfter
     hours-rounded hours i =
         ⊎-elim (λ d. inl (sum-since-first-is hours i ∙ ap pos d)) (λ u. inr (sum-since-first-is hours i ∙ ap pos u))
@@ -220,7 +225,10 @@ module _ (n : ℕ) (share : ℕ → ℕ) (some : 0 < W n share) where
     demand-3 = record { adds-up = hour-adds-up; rounded = hours-rounded; near = run-near; larger = sum-larger }
 
     -- from one hour to the next a running sum falls by at most 1 and grows by at most the residual and 1
-    pub growth-in-range : (t i : ℕ) → i < n → (runningAfter n share residual t i ≤ runningAfter n share residual (suc t) i + 1) × (runningAfter n share residual (suc t) i ≤ runningAfter n share residual t i + residual t + 1)
+    pub growth-in-range :
+        (t i : ℕ)
+        → i < n
+        → (runningAfter n share residual t i ≤ runningAfter n share residual (suc t) i + 1) × (runningAfter n share residual (suc t) i ≤ runningAfter n share residual t i + residual t + 1)
     unfolding runningAfter sum
     growth-in-range t i b =
         let r : ℕ = sum t residual in
@@ -228,7 +236,8 @@ module _ (n : ℕ) (share : ℕ → ℕ) (some : 0 < W n share) where
         let grown : share i * (r + x) ≡ share i * r + share i * x = mul-add (share i) r x in
         let at-most : share i * x ≤ W n share * x = mul-le-mul-right x (share-at-most-W i b) in
         let fall : runningSum n share r i < runningSum n share (r + x) i + 2 = lt-of-mul-lt-mul-right (W n share) (omega (arith, grown, running-below r i, running-above (r + x) i)) in
-        let rise : runningSum n share (r + x) i < runningSum n share r i + x + 2 = lt-of-mul-lt-mul-right (W n share) (omega (arith, grown, at-most, running-above r i, running-below (r + x) i)) in
+        let rise : runningSum n share (r + x) i < runningSum n share r i + x + 2 =
+        lt-of-mul-lt-mul-right (W n share) (omega (arith, grown, at-most, running-above r i, running-below (r + x) i)) in
         (omega arith, omega arith)
 
     -- "A figure can be -1 (D3)": a figure lies in -1 .. residual + 1.

@@ -98,7 +98,11 @@ fill-start f {n} {out} e = record { bound = zero-le; size = e; done = refl }
 pub fill-next : {A : Type 0} {f : ℕ → A} {n : ℕ} {out : List A} {i : ℕ} {v : A} → Filling f n out i → i < n → v ≡ f i → Filling f n (set out i v) (i + 1)
 unfolding figures
 fill-next {A} {f} {n} {out} {i} {v} l b e =
-    record { bound = omega arith; size = length-set out i v ∙ l .size; done = rw (add-one i) (take-suc-set out i v (omega (arith, l .size)) ∙ ap (λ x. x ++ (v ∷ [])) (l .done) ∙ ap (λ x. figures i f ++ (x ∷ [])) e) }
+    record {
+      bound = omega arith;
+      size = length-set out i v ∙ l .size;
+      done = rw (add-one i) (take-suc-set out i v (omega (arith, l .size)) ∙ ap (λ x. x ++ (v ∷ [])) (l .done) ∙ ap (λ x. figures i f ++ (x ∷ [])) e);
+    }
 
 pub fill-end : {A : Type 0} {f : ℕ → A} {n : ℕ} {out : List A} {i : ℕ} → Filling f n out i → n ≤ i → out ≡ figures n f
 fill-end {f = f} {n = n} {out = out} {i = i} l b =

@@ -80,7 +80,8 @@ each-accepts : (n : ℕ) (check : ℕ → Verdict) → inTurn n check ≡ accept
 unfolding inTurn figures first andThen
 each-accepts zero check e i b = absurd (not-suc-le-zero b)
 each-accepts (suc n) check e i b =
-    let both : (first (figures n check) ≡ accepted) × (first (check n ∷ []) ≡ accepted) = both-accept (first (figures n check)) (first (check n ∷ [])) (sym (first-append (figures n check) (check n ∷ [])) ∙ e) in
+    let both : (first (figures n check) ≡ accepted) × (first (check n ∷ []) ≡ accepted) =
+    both-accept (first (figures n check)) (first (check n ∷ [])) (sym (first-append (figures n check) (check n ∷ [])) ∙ e) in
     ⊎-elim (λ (same : i ≡ n). rw same (none-refuses (check n ∷ []) (both .1) .0))
     (λ (less : i < n). each-accepts n check (both .0) i less)
     (eq-or-lt-of-le (le-of-suc-le-suc b))
