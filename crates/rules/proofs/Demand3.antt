@@ -189,7 +189,8 @@ module _ (n : ℕ) (share : ℕ → ℕ) (some : 0 < W n share) where
         ∙ minus-cong (sum t residual + residual t) (sum t residual) (residual t) 0 (omega arith)
         ∙ pos-minus-zero (residual t)
 
-    hours-rounded : (hours i : ℕ)
+    hours-rounded :
+        (hours i : ℕ)
         → (sumSinceFirst n share residual hours i ≡ pos (down (W n share) (exactShare share (sum hours residual) i))) ⊎ (sumSinceFirst n share residual hours i ≡ pos (up (W n share) (exactShare share (sum hours residual) i)))
     unfolding runningAfter
     hours-rounded hours i =
@@ -224,7 +225,9 @@ module _ (n : ℕ) (share : ℕ → ℕ) (some : 0 < W n share) where
     demand-3 = record { adds-up = hour-adds-up; rounded = hours-rounded; near = run-near; larger = sum-larger }
 
     -- from one hour to the next a running sum falls by at most 1 and grows by at most the residual and 1
-    pub growth-in-range : (t i : ℕ) → i < n
+    pub growth-in-range :
+        (t i : ℕ)
+        → i < n
         → (runningAfter n share residual t i ≤ runningAfter n share residual (suc t) i + 1) × (runningAfter n share residual (suc t) i ≤ runningAfter n share residual t i + residual t + 1)
     unfolding runningAfter sum
     growth-in-range t i b =
@@ -233,7 +236,8 @@ module _ (n : ℕ) (share : ℕ → ℕ) (some : 0 < W n share) where
         let grown : share i * (r + x) ≡ share i * r + share i * x = mul-add (share i) r x in
         let at-most : share i * x ≤ W n share * x = mul-le-mul-right x (share-at-most-W i b) in
         let fall : runningSum n share r i < runningSum n share (r + x) i + 2 = lt-of-mul-lt-mul-right (W n share) (omega (arith, grown, running-below r i, running-above (r + x) i)) in
-        let rise : runningSum n share (r + x) i < runningSum n share r i + x + 2 = lt-of-mul-lt-mul-right (W n share) (omega (arith, grown, at-most, running-above r i, running-below (r + x) i)) in
+        let rise : runningSum n share (r + x) i < runningSum n share r i + x + 2 =
+        lt-of-mul-lt-mul-right (W n share) (omega (arith, grown, at-most, running-above r i, running-below (r + x) i)) in
         (omega arith, omega arith)
 
     -- "A figure can be -1 (D3)": a figure lies in -1 .. residual + 1.

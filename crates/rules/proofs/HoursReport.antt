@@ -20,7 +20,9 @@ use Rattle.rules.proofs.Demand3.{divided, sum-since-first-is, running-b
 use Rattle.rules.proofs.Integers.{minus-cong, minus-near, sumℤ-cong}
 
 -- A RUNNING SUM LESS THE EXACT SHARE, in W-ths of a Wh, is what the party has of the Wh left over, less its remainder
-pub by-carries : (n : ℕ) (share : ℕ → ℕ) → 0 < W n share → (r i : ℕ)
+pub by-carries :
+    (n : ℕ) (share : ℕ → ℕ)
+    → 0 < W n share → (r i : ℕ)
     → pos (runningSum n share r i * W n share) -ℤ pos (share i * r) ≡ pos (oneEach n (remainder n share r) (leftOver n share r) i * W n share) -ℤ pos (remainder n share r i)
 unfolding runningSum
 by-carries n share some r i =
@@ -47,7 +49,8 @@ module _ (m : MonthFile) (some : 0 < monthW m) (i hours : ℕ) where
   by-running = ap (λ (z : ℤ). z *ℤ pos (monthW m) -ℤ pos (shareOf m i * so-far)) figures-make-it
 
   -- A DISTANCE BY THE CARRIES: the left-over Wh that the party has, less its remainder
-  pub distance-is : distanceAfter m i hours ≡ pos (oneEach (P m) (remainder (P m) (shareOf m) (sum hours (appliedWh m))) (leftOver (P m) (shareOf m) (sum hours (appliedWh m))) i * monthW m) -ℤ pos (remainder (P m) (shareOf m) (sum hours (appliedWh m)) i)
+  pub distance-is :
+      distanceAfter m i hours ≡ pos (oneEach (P m) (remainder (P m) (shareOf m) (sum hours (appliedWh m))) (leftOver (P m) (shareOf m) (sum hours (appliedWh m))) i * monthW m) -ℤ pos (remainder (P m) (shareOf m) (sum hours (appliedWh m)) i)
   unfolding running so-far monthW
   distance-is = by-running ∙ by-carries (P m) (shareOf m) some (sum hours (appliedWh m)) i
 

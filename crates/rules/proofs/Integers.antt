@@ -175,7 +175,9 @@ sumℤ-swap zero h f = sym (sumℤ-zero h (λ t b. refl))
 sumℤ-swap (suc n) h f = ap (λ (x : ℤ). x +ℤ sumℤ h (λ t. f t n)) (sumℤ-swap n h f) ∙ sym (sumℤ-add h (λ t. sumℤ n (f t)) (λ t. f t n))
 
 -- the figures from one hour on are growths, so they add up to the last standing less the first
-pub growths-add-up : (standing : ℕ → ℕ) (start hours : ℕ) → sumℤ hours (λ t. pos (standing (suc (start + t))) -ℤ pos (standing (start + t))) ≡ pos (standing (start + hours)) -ℤ pos (standing start)
+pub growths-add-up :
+    (standing : ℕ → ℕ) (start hours : ℕ)
+    → sumℤ hours (λ t. pos (standing (suc (start + t))) -ℤ pos (standing (start + t))) ≡ pos (standing (start + hours)) -ℤ pos (standing start)
 unfolding sumℤ
 growths-add-up standing start zero = rw add-zero (sym (+ℤ-invr (pos (standing start))))
 growths-add-up standing start (suc hours) =

@@ -7,13 +7,14 @@ use mir.Syntax.{w64}
 use mir.Val.{SFits, toZ, ofZ}
 use Rattle.rules.specs.Statement.{decimal, signedDecimal, digitsOfWidth, newline, headingText, columnsLine}
 use Rattle.rules.specs.Words.{ascii}
+use Rattle.statement_lines.specs.Halves.{areaMonth, counted, nameEnergies, resulting}
 use Rattle.text.specs.Text.{Put}
 use Rattle.text.proofs.Puts.{put-then, put-pair, put-as}
 
 module _ {b : List ℕ} {p : ℕ} where
   pub area-month : (area year month : ℕ) {m m′ a : List ℕ} {q q′ e : ℕ} → Put (ascii "area " ++ digitsOfWidth 3 area) b p m q → Put (ascii " " ++ decimal year) m q m′ q′
       → Put (ascii "-" ++ digitsOfWidth 2 month) m′ q′ a e
-      → Put (ascii "area " ++ digitsOfWidth 3 area ++ ascii " " ++ decimal year ++ ascii "-" ++ digitsOfWidth 2 month) b p a e
+      → Put (areaMonth area year month) b p a e
   area-month area year month h k l = put-pair (ascii "-") _ (put-pair (ascii " ") _ h k) l
 
   pub counts :
@@ -22,12 +23,12 @@ module _ {b : List ℕ} {p : ℕ} where
       → Put (ascii " parties " ++ decimal parties) m q m′ q′
       → Put (ascii " estimated " ++ decimal estimated) m′ q′ m″ q″
       → Put newline m″ q″ a e
-      → Put (ascii " hours " ++ decimal hours ++ ascii " parties " ++ decimal parties ++ ascii " estimated " ++ decimal estimated ++ newline) b p a e
+      → Put (counted hours parties estimated) b p a e
   counts hours parties estimated h k l n = put-then (put-pair (ascii " estimated ") _ (put-pair (ascii " parties ") _ h k) l) n
 
   pub heading : (area year month hours parties estimated : ℕ) {m a : List ℕ} {q e : ℕ}
-      → Put (ascii "area " ++ digitsOfWidth 3 area ++ ascii " " ++ decimal year ++ ascii "-" ++ digitsOfWidth 2 month) b p m q
-      → Put (ascii " hours " ++ decimal hours ++ ascii " parties " ++ decimal parties ++ ascii " estimated " ++ decimal estimated ++ newline) m q a e
+      → Put (areaMonth area year month) b p m q
+      → Put (counted hours parties estimated) m q a e
       → Put (headingText area year month hours parties estimated) b p a e
   unfolding headingText
   heading area year month hours parties estimated h k = put-as (simp append-assoc) (put-then h k)
@@ -36,7 +37,7 @@ module _ {b : List ℕ} {p : ℕ} where
       {distributed : ℤ} → SFits w64 distributed → (periodised : ℕ) {name m a : List ℕ} {q e : ℕ}
       → Put name b p m q
       → Put (ascii " " ++ signedDecimal (toZ w64 (ofZ w64 distributed)) ++ ascii " " ++ decimal periodised) m q a e
-      → Put (name ++ ascii " " ++ signedDecimal distributed ++ ascii " " ++ decimal periodised) b p a e
+      → Put (nameEnergies name distributed periodised) b p a e
   name-energies f periodised h k = put-as (rw (toZ-ofZ f) (simp append-assoc)) (put-then h k)
 
   pub results : {loss difference ore : ℤ} → SFits w64 loss → SFits w64 difference → SFits w64 ore → {m m′ m″ a : List ℕ} {q q′ q″ e : ℕ}
@@ -44,7 +45,7 @@ module _ {b : List ℕ} {p : ℕ} where
       → Put (ascii " " ++ signedDecimal (toZ w64 (ofZ w64 difference))) m q m′ q′
       → Put (ascii " " ++ signedDecimal (toZ w64 (ofZ w64 ore))) m′ q′ m″ q″
       → Put newline m″ q″ a e
-      → Put (ascii " " ++ signedDecimal loss ++ ascii " " ++ signedDecimal difference ++ ascii " " ++ signedDecimal ore ++ newline) b p a e
+      → Put (resulting loss difference ore) b p a e
   results f g i h k l n =
       rw (toZ-ofZ f, toZ-ofZ g, toZ-ofZ i) at (put-then (put-pair (ascii " ") _ (put-pair (ascii " ") _ h k) l) n)
 
@@ -54,13 +55,8 @@ module _ {b : List ℕ} {p : ℕ} where
       → SFits w64 loss
       → SFits w64 difference
       → SFits w64 ore → (name : List ℕ) (periodised : ℕ) {m a : List ℕ} {q e : ℕ}
-      → Put (name ++ ascii " " ++ signedDecimal (toZ w64 (ofZ w64 distributed)) ++ ascii " " ++ decimal periodised) b p m q
-      → Put
-      (ascii " " ++ signedDecimal (toZ w64 (ofZ w64 loss)) ++ ascii " " ++ signedDecimal (toZ w64 (ofZ w64 difference))
-      ++ ascii " "
-      ++ signedDecimal (toZ w64 (ofZ w64 ore))
-      ++ newline)
-      m q a e
+      → Put (nameEnergies name (toZ w64 (ofZ w64 distributed)) periodised) b p m q
+      → Put (resulting (toZ w64 (ofZ w64 loss)) (toZ w64 (ofZ w64 difference)) (toZ w64 (ofZ w64 ore))) m q a e
       → Put (columnsLine name distributed periodised loss difference ore) b p a e
   unfolding columnsLine
   columns d f g i name periodised h k = put-as (rw (toZ-ofZ d, toZ-ofZ f, toZ-ofZ g, toZ-ofZ i) (simp append-assoc)) (put-then h k)

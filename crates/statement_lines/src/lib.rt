@@ -6,11 +6,10 @@ use text::put_energies;
 use text::put_unsigned;
 use text::put_word_number;
 use text::put_word_width;
-ghost use mathlib.Core.List.{_++_};
 ghost use Prim.Native.Nat.{_+_, _≤_};
 ghost use lib.ListN.{length};
-ghost use Rattle.rules.specs.Statement.{decimal, signedDecimal, digitsOfWidth, newline, headingText, columnsLine};
-ghost use Rattle.rules.specs.Words.{ascii};
+ghost use Rattle.rules.specs.Statement.{headingText, columnsLine};
+ghost use Rattle.statement_lines.specs.Halves.{areaMonth, counted, nameEnergies, resulting};
 ghost use Rattle.statement_lines.specs.Rooms.{areaMonthRoom, countsRoom, headingRoom, nameEnergiesRoom, resultsRoom, columnsRoom};
 ghost use Rattle.text.specs.Text.{Put, longestName};
 
@@ -22,7 +21,7 @@ pub const COLUMNS_ROOM: usize = 119;
 // "area (three digits), year-month"
 fn put_area_month(out: &mut [u8], place: usize, area: u64, year: u64, month: u64) -> usize
     requires { ⌜ place + areaMonthRoom ≤ length (now out) ⌝ }
-    ensures text { λ end. ⌜ Put (ascii "area " ++ digitsOfWidth 3 area ++ ascii " " ++ decimal year ++ ascii "-" ++ digitsOfWidth 2 month) (now (out .entry)) place (now (out .exit)) end ⌝ }
+    ensures text { λ end. ⌜ Put (areaMonth area year month) (now (out .entry)) place (now (out .exit)) end ⌝ }
     ensures within { λ end. ⌜ end ≤ place + areaMonthRoom ⌝ }
 {
     let after_area = put_word_width(out, place, b"area ", 3, area);
@@ -33,7 +32,7 @@ fn put_area_month(out: &mut [u8], place: usize, area: u64, year: u64, month: u64
 // "H, P and the number of applied hours with status 2", and the newline
 fn put_counts(out: &mut [u8], place: usize, hours: u64, parties: u64, estimated: u64) -> usize
     requires { ⌜ place + countsRoom ≤ length (now out) ⌝ }
-    ensures text { λ end. ⌜ Put (ascii " hours " ++ decimal hours ++ ascii " parties " ++ decimal parties ++ ascii " estimated " ++ decimal estimated ++ newline) (now (out .entry)) place (now (out .exit)) end ⌝ }
+    ensures text { λ end. ⌜ Put (counted hours parties estimated) (now (out .entry)) place (now (out .exit)) end ⌝ }
     ensures within { λ end. ⌜ end ≤ place + countsRoom ⌝ }
 {
     let after_hours = put_word_number(out, place, b" hours ", hours);
@@ -70,7 +69,7 @@ fn put_name_energies(
     periodised_wh: u64,
 ) -> usize
     requires { ⌜ (length (now name) ≤ longestName) × (place + nameEnergiesRoom ≤ length (now out)) ⌝ }
-    ensures text { λ end. ⌜ Put (now (name .entry) ++ ascii " " ++ signedDecimal «distributed_wh» ++ ascii " " ++ decimal «periodised_wh») (now (out .entry)) place (now (out .exit)) end ⌝ }
+    ensures text { λ end. ⌜ Put (nameEnergies (now (name .entry)) «distributed_wh» «periodised_wh») (now (out .entry)) place (now (out .exit)) end ⌝ }
     ensures within { λ end. ⌜ end ≤ place + nameEnergiesRoom ⌝ }
 {
     let after_name = put_bytes(out, place, name);
@@ -80,7 +79,7 @@ fn put_name_energies(
 // The last columns: "loss, difference .. and invoice øre", and the newline
 fn put_results(out: &mut [u8], place: usize, loss_wh: i64, difference_wh: i64, ore: i64) -> usize
     requires { ⌜ place + resultsRoom ≤ length (now out) ⌝ }
-    ensures text { λ end. ⌜ Put (ascii " " ++ signedDecimal «loss_wh» ++ ascii " " ++ signedDecimal «difference_wh» ++ ascii " " ++ signedDecimal ore ++ newline) (now (out .entry)) place (now (out .exit)) end ⌝ }
+    ensures text { λ end. ⌜ Put (resulting «loss_wh» «difference_wh» ore) (now (out .entry)) place (now (out .exit)) end ⌝ }
     ensures within { λ end. ⌜ end ≤ place + resultsRoom ⌝ }
 {
     let after_loss = put_column(out, place, loss_wh);

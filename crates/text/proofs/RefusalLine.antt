@@ -4,7 +4,9 @@ use mathlib.Core.Path.{_≡_}
 use Prim.Native.Nat.{ℕ, _≤_, _<_}
 use native.Mathlib.Omega.{arith}
 use lib.ListN.{length, length-append}
-use Rattle.rules.specs.Refusals.{Refusal, fileFault, unknownKind, outOfOrder, outOfRange, glnFault, wOutOfRange, missingHour, residualNegative, residualTooLarge, curveTooLarge, spanFault, energyTooLarge, nothingToFollow, periodisedTooLarge, wrongCount, wrongLength, numberOf}
+use Rattle.rules.specs.Refusals.{Refusal, fileFault, unknownKind, outOfOrder, outOfRange, glnFault, wOutOfRange, missingHour, residualNegative}
+use Rattle.rules.specs.Refusals.{residualTooLarge, curveTooLarge, spanFault, energyTooLarge, nothingToFollow, periodisedTooLarge, wrongCount, wrongLength}
+use Rattle.rules.specs.Refusals.{numberOf}
 use Rattle.rules.specs.Statement.{decimal, newline, refusalLine}
 use Rattle.rules.specs.Words.{ascii}
 use Rattle.text.specs.Text.{Put}
