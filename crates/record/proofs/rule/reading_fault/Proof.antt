@@ -5,7 +5,7 @@ use Rattle.record.proofs.rule.reading_fault.Statement.{statement}
 use Rattle.record.proofs.rule.reading_fault.Tie as tie
 
 returns : tie.Need-returns
-returns c = no-party _ _ _ _ (c .if1 .taken)
+returns c = no-party _ _ _ _ (omega arith)
 
 returns-2 : tie.Need-returns-2
 returns-2 c = not-before _ _ _ _ (omega arith) (c .if2 .taken)
