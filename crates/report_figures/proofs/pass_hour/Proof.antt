@@ -44,7 +44,7 @@ same-length-2 : tie.Need-same-length-2
 same-length-2 c = search needs
 
 returns : tie.Need-returns
-returns c = 
+returns c =
     let fits : SFits w64 (c .before .before .total .result) = search needs in
     let distributed = ap (λ (z : ℤ). set (begins c .args .distributed-wh .now) (begins c .args .t) z) (toZ-ofZ fits ∙ c .before .before .total .ensures) in
     let periodised = ap (λ (n : ℕ). set (begins c .args .periodised-wh .now) (begins c .args .t) n) (c .before .all-periodised .ensures) in
