@@ -1,3 +1,2 @@
 pub mod Silent
 pub mod Hours
-pub mod Unique

@@ -72,7 +72,7 @@ pub extern "C" fn settle_curve(residuals: &[u32], w: u64, out: &mut [u32]) -> u6
         (curveFigures (now (residuals .entry)) w)
         (now (out .entry)) ⌝ }
 {
-    let answered = residual::curve(residuals, w, out);
+    let answered = curve_numbers::curve(residuals, w, out);
     code(answered)
 }
 

@@ -1,4 +1,4 @@
--- `residual::curve_numbers_fit` meets its contract: what is left of the list says what the whole says. Assumes nothing.
+-- `curve_numbers::curve_numbers_fit` meets its contract: what is left of the list says what the whole says. Assumes nothing.
 use mathlib.Core.Path.{sym}
 use Prim.Native.Nat.{_-_}
 use lib.ListN.{length}
@@ -6,11 +6,11 @@ use Rattle.rules.specs.Refusals.{curveTooLarge}
 use Rattle.rules.specs.Services.{eachAt, checkAt, curveFits}
 use Rattle.rules.specs.Words.{at}
 use Rattle.rules.proofs.Loops.{Looking, look-start, look-pass, look-stop, look-end}
-use Rattle.residual.proofs.CurveNumbers.{number-passes, number-stops}
+use Rattle.curve_numbers.proofs.Checking.{number-passes, number-stops}
 use borrow.Author.Needs.{needs}
 use native.Mathlib.Omega.{arith}
-use Rattle.residual.proofs.curve_numbers_fit.Statement.{statement}
-use Rattle.residual.proofs.curve_numbers_fit.Tie as tie
+use Rattle.curve_numbers.proofs.curve_numbers_fit.Statement.{statement}
+use Rattle.curve_numbers.proofs.curve_numbers_fit.Tie as tie
 
 abbrev Inv-loop : tie.InvT-loop
 Inv-loop residuals w t₀ t = Looking (checkAt residuals (curveFits w) curveTooLarge) (length residuals) t

@@ -1,14 +1,14 @@
--- `residual::write_curve` meets its contract: the beginning of the lent series is the curve so far. Assumes nothing.
+-- `curve_numbers::write_curve` meets its contract: the beginning of the lent series is the curve so far. Assumes nothing.
 use Prim.Native.Nat.{_-_}
 use lib.ListN.{length}
 use Rattle.rules.specs.Services.{curveFigures, curveAt}
 use Rattle.rules.proofs.Loops.{Filling, fill-start, fill-next, fill-end}
-use Rattle.residual.proofs.CurveNumbers.{number-fits}
+use Rattle.curve_numbers.proofs.Checking.{number-fits}
 use borrow.Author.Needs.{needs}
 use Rattle.rules.specs.Words.{at}
 use native.Mathlib.Omega.{arith}
-use Rattle.residual.proofs.write_curve.Statement.{statement}
-use Rattle.residual.proofs.write_curve.Tie as tie
+use Rattle.curve_numbers.proofs.write_curve.Statement.{statement}
+use Rattle.curve_numbers.proofs.write_curve.Tie as tie
 
 abbrev Inv-loop : tie.InvT-loop
 Inv-loop residuals w out₀ t₀ out t = Filling (curveAt residuals w) (length residuals) out t

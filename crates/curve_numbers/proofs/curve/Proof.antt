@@ -1,11 +1,11 @@
--- `residual::curve` meets its contract: its passes are the checks, in their order, and it writes only after the last of them. Assumes nothing.
+-- `curve_numbers::curve` meets its contract: its passes are the checks, in their order, and it writes only after the last of them. Assumes nothing.
 use mathlib.Core.Path.{_∙_}
 use Rattle.rules.specs.Refusals.{afterwards}
 use Rattle.answer.proofs.Checks.{pass-refuses, pass-accepts, none-left, accepted-by, unwritten}
-use Rattle.residual.proofs.CurveNumbers.{in-parts, shape-lent, shape-w}
+use Rattle.curve_numbers.proofs.Checking.{in-parts, shape-lent, shape-w}
 use borrow.Author.Needs.{needs}
-use Rattle.residual.proofs.curve.Statement.{statement}
-use Rattle.residual.proofs.curve.Tie as tie
+use Rattle.curve_numbers.proofs.curve.Statement.{statement}
+use Rattle.curve_numbers.proofs.curve.Tie as tie
 
 curve-shape-requires : tie.Need-curve-shape-requires
 curve-shape-requires c κs = search needs

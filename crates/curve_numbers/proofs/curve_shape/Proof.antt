@@ -1,10 +1,10 @@
--- `residual::curve_shape` meets its contract: its tests are the checks, in their order. Assumes nothing.
+-- `curve_numbers::curve_shape` meets its contract: its tests are the checks, in their order. Assumes nothing.
 use borrow.Author.Tests.{eq-eqb, ne-eqb}
 use Rattle.rules.specs.Words.{within}
 use Rattle.answer.proofs.Checks.{flag-off, flag-on, test-refuses, test-passes, none-left}
-use Rattle.residual.specs.Passes.{curveShape}
-use Rattle.residual.proofs.curve_shape.Statement.{statement}
-use Rattle.residual.proofs.curve_shape.Tie as tie
+use Rattle.curve_numbers.specs.Passes.{curveShape}
+use Rattle.curve_numbers.proofs.curve_shape.Statement.{statement}
+use Rattle.curve_numbers.proofs.curve_shape.Tie as tie
 
 returns : tie.Need-returns
 unfolding curveShape within

@@ -16,7 +16,7 @@ use Rattle.rules.specs.Words.{at, atMost, within}
 use Rattle.rules.proofs.Refusals.{accepted-exactly, in-turn-exactly, unless-exactly}
 use Rattle.rules.proofs.Whole.{within-is}
 use Rattle.answer.proofs.Checks.{grouped}
-use Rattle.residual.specs.Passes.{curveShape, CurveReady}
+use Rattle.curve_numbers.specs.Passes.{curveShape, CurveReady}
 
 -- what an accepted shape says
 module _ (hours w lent : ℕ) (e : curveShape hours w lent ≡ accepted) where

@@ -1,8 +1,8 @@
--- `residual::curve_number` meets its contract: the one function that looks into the curve number. Assumes nothing.
+-- `curve_numbers::curve_number` meets its contract: the one function that looks into the curve number. Assumes nothing.
 use borrow.Author.Needs.{needs}
 use Rattle.rules.specs.Flows.{curveNumber}
-use Rattle.residual.proofs.curve_number.Statement.{statement}
-use Rattle.residual.proofs.curve_number.Tie as tie
+use Rattle.curve_numbers.proofs.curve_number.Statement.{statement}
+use Rattle.curve_numbers.proofs.curve_number.Tie as tie
 
 mul-rounded-down : tie.Need-mul-rounded-down
 mul-rounded-down c = search needs
