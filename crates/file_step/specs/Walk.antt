@@ -26,7 +26,16 @@ use Rattle.rules.specs.Refusals.{accepted, refused, first}
 -- nothing read yet
 abbrev pub startOf : Walk
 startOf =
-    record { records = 0; heading = record { area = 0; year = 0; month = 0; hours = 0; parties = 0; carrier = 0 }; parties = 0; fixed = 0; refixed = 0; prices = 0; readings = 0; «last_gln» = 0 }
+    record {
+      records = 0;
+      heading = record { area = 0; year = 0; month = 0; hours = 0; parties = 0; carrier = 0 };
+      parties = 0;
+      fixed = 0;
+      refixed = 0;
+      prices = 0;
+      readings = 0;
+      «last_gln» = 0;
+    }
 
 -- the order of the records, by numbers: law `due-is` reads it as the rules' `due`
 abbrev pub dueIn : Walk → Record → Bool
@@ -45,19 +54,82 @@ dueIn w (End count) = leb 1 (w .heading .hours) && eqb (w .prices) (w .heading .
 -- with one record more; of a party the number of its GLN is kept
 abbrev pub withIn : Walk → Record → ℕ → Walk
 withIn w (Heading h) number =
-    record { records = w .records + 1; heading = h; parties = w .parties; fixed = w .fixed; refixed = w .refixed; prices = w .prices; readings = w .readings; «last_gln» = w .«last_gln» }
+    record {
+      records = w .records + 1;
+      heading = h;
+      parties = w .parties;
+      fixed = w .fixed;
+      refixed = w .refixed;
+      prices = w .prices;
+      readings = w .readings;
+      «last_gln» = w .«last_gln»;
+    }
 withIn w (Party share) number =
-    record { records = w .records + 1; heading = w .heading; parties = w .parties + 1; fixed = w .fixed; refixed = w .refixed; prices = w .prices; readings = w .readings; «last_gln» = number }
+    record {
+      records = w .records + 1;
+      heading = w .heading;
+      parties = w .parties + 1;
+      fixed = w .fixed;
+      refixed = w .refixed;
+      prices = w .prices;
+      readings = w .readings;
+      «last_gln» = number;
+    }
 withIn w (FixedHour hour f) number =
-    record { records = w .records + 1; heading = w .heading; parties = w .parties; fixed = w .fixed + 1; refixed = w .refixed; prices = w .prices; readings = w .readings; «last_gln» = w .«last_gln» }
+    record {
+      records = w .records + 1;
+      heading = w .heading;
+      parties = w .parties;
+      fixed = w .fixed + 1;
+      refixed = w .refixed;
+      prices = w .prices;
+      readings = w .readings;
+      «last_gln» = w .«last_gln»;
+    }
 withIn w (Reading r) number =
-    record { records = w .records + 1; heading = w .heading; parties = w .parties; fixed = w .fixed; refixed = w .refixed; prices = w .prices; readings = w .readings + 1; «last_gln» = w .«last_gln» }
+    record {
+      records = w .records + 1;
+      heading = w .heading;
+      parties = w .parties;
+      fixed = w .fixed;
+      refixed = w .refixed;
+      prices = w .prices;
+      readings = w .readings + 1;
+      «last_gln» = w .«last_gln»;
+    }
 withIn w (Price hour p) number =
-    record { records = w .records + 1; heading = w .heading; parties = w .parties; fixed = w .fixed; refixed = w .refixed; prices = w .prices + 1; readings = w .readings; «last_gln» = w .«last_gln» }
+    record {
+      records = w .records + 1;
+      heading = w .heading;
+      parties = w .parties;
+      fixed = w .fixed;
+      refixed = w .refixed;
+      prices = w .prices + 1;
+      readings = w .readings;
+      «last_gln» = w .«last_gln»;
+    }
 withIn w (RefixedHour hour f) number =
-    record { records = w .records + 1; heading = w .heading; parties = w .parties; fixed = w .fixed; refixed = w .refixed + 1; prices = w .prices; readings = w .readings; «last_gln» = w .«last_gln» }
+    record {
+      records = w .records + 1;
+      heading = w .heading;
+      parties = w .parties;
+      fixed = w .fixed;
+      refixed = w .refixed + 1;
+      prices = w .prices;
+      readings = w .readings;
+      «last_gln» = w .«last_gln»;
+    }
 withIn w (End count) number =
-    record { records = w .records + 1; heading = w .heading; parties = w .parties; fixed = w .fixed; refixed = w .refixed; prices = w .prices; readings = w .readings; «last_gln» = w .«last_gln» }
+    record {
+      records = w .records + 1;
+      heading = w .heading;
+      parties = w .parties;
+      fixed = w .fixed;
+      refixed = w .refixed;
+      prices = w .prices;
+      readings = w .readings;
+      «last_gln» = w .«last_gln»;
+    }
 
 -- no more of any kind than records
 pub record Counted (w : Walk) : Type 0 where

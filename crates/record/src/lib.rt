@@ -151,7 +151,7 @@ pub fn decode(part: &[u8]) -> Record
     let first = part[0];
     match first {
         kind::HEADING => Record::Heading(heading_in(part)),
-        kind::PARTY => Record::Party(fields::number_at(part, 14, 8)),
+        kind::PARTY => Record::Party(share_in(part)),
         kind::FIXED_HOUR => Record::FixedHour(fields::u16_at(part, 1), flows_in(part)),
         kind::READING => Record::Reading(reading_in(part)),
         kind::PRICE => Record::Price(fields::u16_at(part, 1), price_in(part)),

@@ -52,7 +52,13 @@ plainHeading l =
 
 abbrev pub plainFlows : List ℤ → CFlows.Flows
 plainFlows l =
-    record { status = held 255 l 1; «net_wh» = nth l 2; «production_wh» = held 18446744073709551615 l 3; «hourly_wh» = held 18446744073709551615 l 4; «flex_wh» = held 18446744073709551615 l 5 }
+    record {
+      status = held 255 l 1;
+      «net_wh» = nth l 2;
+      «production_wh» = held 18446744073709551615 l 3;
+      «hourly_wh» = held 18446744073709551615 l 4;
+      «flex_wh» = held 18446744073709551615 l 5;
+    }
 
 abbrev pub plainReading : List ℤ → CReading.Reading
 plainReading l = record { party = held 255 l 0; a = held 65535 l 1; b = held 65535 l 2; «e_wh» = held 4294967295 l 3 }

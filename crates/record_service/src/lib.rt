@@ -197,8 +197,10 @@ fn list_right(sort: u8, numbers: &[i64]) -> bool
 // The record writer on plain numbers: 2 first; then 4 where the list has another length than
 // the kind has fields, a number is negative in an unsigned field, or an end count is beyond its four bytes; then as the writer.
 pub fn write_plain(kind: u64, numbers: &[i64], gln: &[u8], out: &mut [u8]) -> Written
-    ensures answer { λ w. ⌜ wrote w ≡ answer (plainVerdict kind (now (numbers .entry)) (now (gln .entry)) (length (now (out .entry)))) (length (recordBytes (recordOf (now (gln .entry)) (plainRecord kind (now (numbers .entry)))))) ⌝ }
-    ensures contents { λ w. ⌜ now (out .exit) ≡ afterwards (plainVerdict kind (now (numbers .entry)) (now (gln .entry)) (length (now (out .entry)))) (written (recordOf (now (gln .entry)) (plainRecord kind (now (numbers .entry)))) (now (out .entry))) (now (out .entry)) ⌝ }
+    ensures answer { λ w. ⌜ wrote w ≡ answer (plainVerdict kind (now (numbers .entry)) (now (gln .entry)) (length (now (out .entry))))
+        (length (recordBytes (recordOf (now (gln .entry)) (plainRecord kind (now (numbers .entry)))))) ⌝ }
+    ensures contents { λ w. ⌜ now (out .exit) ≡ afterwards (plainVerdict kind (now (numbers .entry)) (now (gln .entry)) (length (now (out .entry))))
+        (written (recordOf (now (gln .entry)) (plainRecord kind (now (numbers .entry)))) (now (out .entry))) (now (out .entry)) ⌝ }
 {
     if 255 < kind {
         return Written::Refused(Refusal::UnknownKind, 0);

@@ -58,7 +58,8 @@ unfolding glue record-bytes
 end-glued count = after-kind endKind (omega arith) _
 
 -- a party's bytes, in three goes
-pub party-put : (gln : List ℕ) (share : ℕ) → length gln ≡ glnDigits → (d : List ℕ) {a b c : List ℕ} → a ≡ sets d 0 (bytesOf 1 partyKind) → b ≡ sets a 1 gln → c ≡ sets b 14 (bytesOf 8 share)
+pub party-put : (gln : List ℕ) (share : ℕ) → length gln ≡ glnDigits
+    → (d : List ℕ) {a b c : List ℕ} → a ≡ sets d 0 (bytesOf 1 partyKind) → b ≡ sets a 1 gln → c ≡ sets b 14 (bytesOf 8 share)
     → c ≡ sets d 0 (recordBytes (party (record { gln = gln; share = share })))
 unfolding record-bytes
 party-put gln share e d {a} {b} {c} p q r =

@@ -30,7 +30,8 @@ module _ (gln : List ℕ) (r : Code′.Record) (out after : List ℕ) (w : Code�
   read-what-was-written n e held found promise =
       let verdict : writeVerdict (recordOf gln r) (length out) ≡ accepted = R.given-by _ _ n (sym answered ∙ ap wrote e) .0 in
       let checked : first (checks alone (recordOf gln r)) ≡ accepted = both-accept _ _ (sym (verdict-is (recordOf gln r) out) ∙ verdict) .0 in
-      let bytes : after ≡ recordBytes (recordOf gln r) ++ drop (length (recordBytes (recordOf gln r))) out = contents ∙ ap (λ (v : Verdict). afterwards v (written (recordOf gln r) out) out) verdict in
+      let bytes : after ≡ recordBytes (recordOf gln r) ++ drop (length (recordBytes (recordOf gln r))) out =
+      contents ∙ ap (λ (v : Verdict). afterwards v (written (recordOf gln r) out) out) verdict in
       promise ∙ ap readAlone bytes ∙ R.read-of-written (recordOf gln r) (drop (length (recordBytes (recordOf gln r))) out) held checked
 
   -- WRITTEN OF READ IS THE SAME BYTES: into a part with room for them

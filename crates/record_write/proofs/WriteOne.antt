@@ -74,7 +74,8 @@ module _ (gln : List ℕ) (r : C.Record) (out : List ℕ) (e : first (checks alo
   too-short h =
       rw (lt-leb (length (recordBytes (recordOf gln r))) (length out) (omega (arith, size-is gln r e))) (refl, refl)
 
-  pub has-room : {n : ℕ} → n ≡ 1 + bodyLength (kindOf r) → n ≤ length out → {after : List ℕ} → after ≡ sets out 0 (recordBytes (recordOf gln r)) → Promised (recordOf gln r) out (roomFor (recordOf gln r) out) (given n) after
+  pub has-room : {n : ℕ} → n ≡ 1 + bodyLength (kindOf r) → n ≤ length out → {after : List ℕ} → after ≡ sets out 0 (recordBytes (recordOf gln r))
+      → Promised (recordOf gln r) out (roomFor (recordOf gln r) out) (given n) after
   unfolding roomFor unless answer afterwards written
   has-room i h s =
       let room : length (recordBytes (recordOf gln r)) ≤ length out = omega (arith, size-is gln r e) in

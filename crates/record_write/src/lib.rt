@@ -154,7 +154,8 @@ fn encode(r: Record, gln: &[u8], out: &mut [u8])
 fn put_record(r: Record, gln: &[u8], out: &mut [u8]) -> Written
     requires { ⌜ first (checks alone (recordOf (now gln) r)) ≡ accepted ⌝ }
     ensures answer { λ w. ⌜ wrote w ≡ answer (roomFor (recordOf (now (gln .entry)) r) (now (out .entry))) (length (recordBytes (recordOf (now (gln .entry)) r))) ⌝ }
-    ensures contents { λ w. ⌜ now (out .exit) ≡ afterwards (roomFor (recordOf (now (gln .entry)) r) (now (out .entry))) (written (recordOf (now (gln .entry)) r) (now (out .entry))) (now (out .entry)) ⌝ }
+    ensures contents { λ w. ⌜ now (out .exit) ≡ afterwards (roomFor (recordOf (now (gln .entry)) r) (now (out .entry)))
+        (written (recordOf (now (gln .entry)) r) (now (out .entry))) (now (out .entry)) ⌝ }
 {
     let n = 1 + record::body_length(kind_of(r));
     if out.len() < n {
@@ -167,7 +168,8 @@ fn put_record(r: Record, gln: &[u8], out: &mut [u8]) -> Written
 // "The record writer takes one record's fields and a lent part": 4, 5, 11, 12, then 16.
 pub fn write(r: Record, gln: &[u8], out: &mut [u8]) -> Written
     ensures answer { λ w. ⌜ wrote w ≡ answer (writeVerdict (recordOf (now (gln .entry)) r) (length (now (out .entry)))) (length (recordBytes (recordOf (now (gln .entry)) r))) ⌝ }
-    ensures contents { λ w. ⌜ now (out .exit) ≡ afterwards (writeVerdict (recordOf (now (gln .entry)) r) (length (now (out .entry)))) (written (recordOf (now (gln .entry)) r) (now (out .entry))) (now (out .entry)) ⌝ }
+    ensures contents { λ w. ⌜ now (out .exit) ≡ afterwards (writeVerdict (recordOf (now (gln .entry)) r) (length (now (out .entry))))
+        (written (recordOf (now (gln .entry)) r) (now (out .entry))) (now (out .entry)) ⌝ }
 {
     let a = record::fault(r, gln, MOST_HOURS, MOST_PARTIES, 0);
     match a {

@@ -18,9 +18,9 @@ heading-in-requires : tie.Need-heading-in-requires
 unfolding body-lengths
 heading-in-requires c κs = omega (arith, stands (c .before .before .before .pre) headingKind (c .match .keys1))
 
-number-at-requires : tie.Need-number-at-requires
+share-in-requires : tie.Need-share-in-requires
 unfolding body-lengths
-number-at-requires c κs = omega (arith, stands (c .before .before .before .pre) partyKind (c .match .keys2))
+share-in-requires c κs = omega (arith, stands (c .before .before .before .pre) partyKind (c .match .keys2))
 
 u16-at-requires : tie.Need-u16-at-requires
 unfolding body-lengths
@@ -59,7 +59,10 @@ returns c = c .heading-in .ensures ∙ as-at (c .before .before .before .before 
 
 returns-2 : tie.Need-returns-2
 unfolding body-lengths
-returns-2 c = rw (c .number-at .ensures .0) (party-is _ (omega (arith, stands (c .before .before .before .before .pre) partyKind (c .before .match .keys2))) ∙ as-at (c .before .before .before .before .pre) partyKind (c .before .match .keys2))
+returns-2 c =
+    let whole = c .before .before .before .before .pre in
+    rw (c .share-in .ensures)
+    (party-is _ (omega (arith, stands whole partyKind (c .before .match .keys2))) ∙ as-at whole partyKind (c .before .match .keys2))
 
 returns-3 : tie.Need-returns-3
 returns-3 c = rw (c .before .u16-at .ensures, c .flows-in .ensures) (fixed-is _ ∙ as-at (c .before .before .before .before .before .pre) fixedHourKind (c .before .before .match .keys3))
@@ -69,7 +72,11 @@ returns-4 c = c .reading-in .ensures ∙ as-at (c .before .before .before .befor
 
 returns-5 : tie.Need-returns-5
 unfolding body-lengths
-returns-5 c = let f : SFits w64 (c .price-in .result) = search needs in rw (toZ-ofZ f, c .before .u16-at2 .ensures, c .price-in .ensures) (price-is _ (omega (arith, stands (c .before .before .before .before .before .pre) priceKind (c .before .before .match .keys5))) ∙ as-at (c .before .before .before .before .before .pre) priceKind (c .before .before .match .keys5))
+returns-5 c =
+    let f : SFits w64 (c .price-in .result) = search needs in
+    let whole = c .before .before .before .before .before .pre in
+    rw (toZ-ofZ f, c .before .u16-at2 .ensures, c .price-in .ensures)
+    (price-is _ (omega (arith, stands whole priceKind (c .before .before .match .keys5))) ∙ as-at whole priceKind (c .before .before .match .keys5))
 
 returns-6 : tie.Need-returns-6
 returns-6 c = rw (c .before .u16-at3 .ensures, c .flows-in2 .ensures) (refixed-is _ ∙ as-at (c .before .before .before .before .before .pre) refixedHourKind (c .before .before .match .keys6))
@@ -83,7 +90,7 @@ decode-spec =
     (tie.spec
     shared-slice-read-first
     heading-in-requires
-    number-at-requires
+    share-in-requires
     u16-at-requires
     flows-in-requires
     reading-in-requires

@@ -71,7 +71,9 @@ returns-4 : tie.Need-returns-4
 returns-4 c = rw (c .before .before .r4 .given .1) (c .reading-fault .ensures ∙ reading-anyhow _ _ _ _ _)
 
 returns-5 : tie.Need-returns-5
-returns-5 c = let f : SFits w64 (c .before .before .before .r5 .given .0 .1 .0) = search needs in rw (c .before .before .before .r5 .given .1) (price-fault _ _ _ _ (c .unless3 .ensures) _ _ f (c .before .price-in-range .ensures))
+returns-5 c =
+    let f : SFits w64 (c .before .before .before .r5 .given .0 .1 .0) = search needs in
+    rw (c .before .before .before .r5 .given .1) (price-fault _ _ _ _ (c .unless3 .ensures) _ _ f (c .before .price-in-range .ensures))
 
 returns-6 : tie.Need-returns-6
 returns-6 c = rw (c .before .before .before .r6 .given .1) (refixed-fault _ _ _ _ (c .unless4 .ensures) _ _ (c .before .hour-in-range2 .ensures))

@@ -27,7 +27,19 @@ number-at-requires-4 : tie.Need-number-at-requires-4
 number-at-requires-4 c κs = search needs
 
 returns : tie.Need-returns
-returns c = let f : SFits w64 (c .before .before .before .signed .result) = search needs in rw (toZ-ofZ f, c .before .before .before .before .before .u8-at .ensures, c .before .before .before .signed .ensures, c .before .before .before .before .number-at .ensures .0, c .before .before .number-at2 .ensures .0, c .before .number-at3 .ensures .0, c .number-at4 .ensures .0, signed-8) (flows-is _ (c .before .before .before .before .before .before .before .pre))
+returns c =
+    let f : SFits w64 (c .before .before .before .signed .result) = search needs in
+    rw (
+      toZ-ofZ f,
+      c .before .before .before .before .before .u8-at .ensures,
+      c .before .before .before .signed .ensures,
+      c .before .before .before .before .number-at .ensures .0,
+      c .before .before .number-at2 .ensures .0,
+      c .before .number-at3 .ensures .0,
+      c .number-at4 .ensures .0,
+      signed-8,
+    )
+    (flows-is _ (c .before .before .before .before .before .before .before .pre))
 
 pub flows-in-spec : {M : Type 1} → statement M
 flows-in-spec =

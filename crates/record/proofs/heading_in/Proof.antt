@@ -23,7 +23,16 @@ u8-at-requires-3 : tie.Need-u8-at-requires-3
 u8-at-requires-3 c κs = search needs
 
 returns : tie.Need-returns
-returns c = rw (c .before .before .before .before .before .u16-at .ensures, c .before .before .before .before .u16-at2 .ensures, c .before .before .before .u8-at .ensures, c .before .before .u16-at3 .ensures, c .before .u8-at2 .ensures, c .u8-at3 .ensures) (heading-is _)
+returns c =
+    rw (
+      c .before .before .before .before .before .u16-at .ensures,
+      c .before .before .before .before .u16-at2 .ensures,
+      c .before .before .before .u8-at .ensures,
+      c .before .before .u16-at3 .ensures,
+      c .before .u8-at2 .ensures,
+      c .u8-at3 .ensures,
+    )
+    (heading-is _)
 
 pub heading-in-spec : {M : Type 1} → statement M
 heading-in-spec =

@@ -24,7 +24,9 @@ u64-of-requires-3 : tie.Need-u64-of-requires-3
 u64-of-requires-3 c κs = search needs
 
 returns : tie.Need-returns
-returns c = let f : SFits w64 (getD (c .before .before .before .before .before .args .numbers .now) 2 (pos 0)) = search needs in rw (toZ-ofZ f, c .before .before .before .before .u8-of .ensures, c .before .before .u64-of .ensures, c .before .u64-of2 .ensures, c .u64-of3 .ensures)
+returns c =
+    let f : SFits w64 (getD (c .before .before .before .before .before .args .numbers .now) 2 (pos 0)) = search needs in
+    rw (toZ-ofZ f, c .before .before .before .before .u8-of .ensures, c .before .before .u64-of .ensures, c .before .u64-of2 .ensures, c .u64-of3 .ensures)
 
 pub flows-of-spec : {M : Type 1} → statement M
 flows-of-spec =

@@ -22,7 +22,15 @@ u8-of-requires-3 : tie.Need-u8-of-requires-3
 u8-of-requires-3 c κs = search needs
 
 returns : tie.Need-returns
-returns c = rw (c .before .before .before .before .before .u16-of .ensures, c .before .before .before .before .u16-of2 .ensures, c .before .before .before .u8-of .ensures, c .before .before .u16-of3 .ensures, c .before .u8-of2 .ensures, c .u8-of3 .ensures)
+returns c =
+    rw (
+      c .before .before .before .before .before .u16-of .ensures,
+      c .before .before .before .before .u16-of2 .ensures,
+      c .before .before .before .u8-of .ensures,
+      c .before .before .u16-of3 .ensures,
+      c .before .u8-of2 .ensures,
+      c .u8-of3 .ensures,
+    )
 
 pub heading-of-spec : {M : Type 1} → statement M
 heading-of-spec =

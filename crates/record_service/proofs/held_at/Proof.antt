@@ -21,11 +21,17 @@ cast-n c = let f : SFits w64 (getD (c .before .before .args .numbers .now) (c .b
 
 returns : tie.Need-returns
 unfolding held
-returns c = let f : SFits w64 (getD (c .before .before .before .args .numbers .now) (c .before .before .before .args .k) (pos 0)) = search needs in within-field f _ (c .before .if1 .taken) (c .if2 .taken)
+returns c =
+    let start = c .before .before .before in
+    let f : SFits w64 (getD (start .args .numbers .now) (start .args .k) (pos 0)) = search needs in
+    within-field f _ (c .before .if1 .taken) (c .if2 .taken)
 
 returns-2 : tie.Need-returns-2
 unfolding held
-returns-2 c = let f : SFits w64 (getD (c .before .before .before .args .numbers .now) (c .before .before .before .args .k) (pos 0)) = search needs in beyond-field f _ (c .before .if1 .taken) (c .if2 .left)
+returns-2 c =
+    let start = c .before .before .before in
+    let f : SFits w64 (getD (start .args .numbers .now) (start .args .k) (pos 0)) = search needs in
+    beyond-field f _ (c .before .if1 .taken) (c .if2 .left)
 
 returns-3 : tie.Need-returns-3
 unfolding held

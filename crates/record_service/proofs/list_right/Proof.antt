@@ -28,10 +28,17 @@ signs-right-requires : tie.Need-signs-right-requires
 signs-right-requires c κs = search needs
 
 returns-2 : tie.Need-returns-2
-returns-2 c = wrong-sign (c .before .before .before .before .before .args .sort) (c .before .before .before .before .before .args .numbers .now) (c .before .before .before .before .field-count .ensures) (c .before .before .before .if1 .left) (c .before .before .signed-place .ensures) (c .before .signs-right .ensures) (c .if2 .taken)
+returns-2 c =
+    let start = c .before .before .before .before .before in
+    wrong-sign (start .args .sort) (start .args .numbers .now) (c .before .before .before .before .field-count .ensures)
+    (c .before .before .before .if1 .left) (c .before .before .signed-place .ensures) (c .before .signs-right .ensures) (c .if2 .taken)
 
 returns-3 : tie.Need-returns-3
-returns-3 c = no-end (c .before .before .before .before .before .before .args .sort) (c .before .before .before .before .before .before .args .numbers .now) (c .before .before .before .before .before .field-count .ensures) (c .before .before .before .before .if1 .left) (c .before .before .before .signed-place .ensures) (c .before .before .signs-right .ensures) (c .before .if2 .left) (c .if3 .taken)
+returns-3 c =
+    let start = c .before .before .before .before .before .before in
+    no-end (start .args .sort) (start .args .numbers .now) (c .before .before .before .before .before .field-count .ensures)
+    (c .before .before .before .before .if1 .left) (c .before .before .before .signed-place .ensures) (c .before .before .signs-right .ensures)
+    (c .before .if2 .left) (c .if3 .taken)
 
 shared-slice-copy-out-not-above-end : tie.Need-shared-slice-copy-out-not-above-end
 unfolding fieldCount body-lengths
@@ -41,7 +48,13 @@ not-above-end-requires : tie.Need-not-above-end-requires
 not-above-end-requires c κs = search needs
 
 returns-4 : tie.Need-returns-4
-returns-4 c = let f : SFits w64 (getD (c .before .before .before .before .before .before .before .before .args .numbers .now) 0 (pos 0)) = search needs in end-count (c .before .before .before .before .before .before .before .before .args .sort) (c .before .before .before .before .before .before .before .before .args .numbers .now) (c .before .before .before .before .before .before .before .field-count .ensures) (c .before .before .before .before .before .before .if1 .left) (c .before .before .before .before .before .signed-place .ensures) (c .before .before .before .before .signs-right .ensures) (c .before .before .before .if2 .left) (c .before .before .if3 .left) (c .not-above-end .ensures ∙ ap (λ z. leb (natAbs z) 4294967295) (toZ-ofZ f))
+returns-4 c =
+    let start = c .before .before .before .before .before .before .before .before in
+    let f : SFits w64 (getD (start .args .numbers .now) 0 (pos 0)) = search needs in
+    end-count (start .args .sort) (start .args .numbers .now) (c .before .before .before .before .before .before .before .field-count .ensures)
+    (c .before .before .before .before .before .before .if1 .left) (c .before .before .before .before .before .signed-place .ensures)
+    (c .before .before .before .before .signs-right .ensures) (c .before .before .before .if2 .left) (c .before .before .if3 .left)
+    (c .not-above-end .ensures ∙ ap (λ z. leb (natAbs z) 4294967295) (toZ-ofZ f))
 
 pub list-right-spec : {M : Type 1} → statement M
 list-right-spec =

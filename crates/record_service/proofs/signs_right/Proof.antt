@@ -30,7 +30,9 @@ not-negative-requires : tie.Need-not-negative-requires Inv-loop μ-loop
 not-negative-requires c κs = search needs
 
 returns : tie.Need-returns Inv-loop μ-loop
-returns c = let f : SFits w64 (getD (c .before .before .before .before .before .args .numbers .now) (c .before .before .before .before .loop .i) (pos 0)) = search needs in sign-wrong (c .before .before .before .before .loop .inv) (omega arith) f (c .before .not-negative .ensures) (c .if1 .taken)
+returns c =
+    let f : SFits w64 (getD (c .before .before .before .before .before .args .numbers .now) (c .before .before .before .before .loop .i) (pos 0)) = search needs in
+    sign-wrong (c .before .before .before .before .loop .inv) (omega arith) f (c .before .not-negative .ensures) (c .if1 .taken)
 
 add-i : tie.Need-add-i Inv-loop μ-loop
 add-i c = search needs
@@ -39,7 +41,9 @@ loop-less : tie.Need-loop-less Inv-loop μ-loop
 loop-less c = search needs
 
 loop-again : tie.Need-loop-again Inv-loop μ-loop
-loop-again c = let f : SFits w64 (getD (c .before .before .before .before .before .args .numbers .now) (c .before .before .before .before .loop .i) (pos 0)) = search needs in sign-next (c .before .before .before .before .loop .inv) (omega arith) f (c .before .not-negative .ensures) (c .if1 .left)
+loop-again c =
+    let f : SFits w64 (getD (c .before .before .before .before .before .args .numbers .now) (c .before .before .before .before .loop .i) (pos 0)) = search needs in
+    sign-next (c .before .before .before .before .loop .inv) (omega arith) f (c .before .not-negative .ensures) (c .if1 .left)
 
 returns-2 : tie.Need-returns-2 Inv-loop μ-loop
 returns-2 c = sign-end (c .before .loop .inv) (omega arith)

@@ -8,7 +8,9 @@ use Rattle.record_service.proofs.write_plain.Statement.{statement}
 use Rattle.record_service.proofs.write_plain.Tie as tie
 
 returns : tie.Need-returns
-returns c = unknown (c .before .before .before .args .kind) (c .before .before .before .args .numbers .now) (c .before .before .before .args .gln .now) (c .before .before .before .args .out .now) (no-kind-above _ (c .if1 .taken))
+returns c =
+    let start = c .before .before .before in
+    unknown (start .args .kind) (start .args .numbers .now) (start .args .gln .now) (start .args .out .now) (no-kind-above _ (c .if1 .taken))
 
 cast-sort : tie.Need-cast-sort
 cast-sort c = search needs
@@ -17,13 +19,19 @@ body-length-requires : tie.Need-body-length-requires
 body-length-requires c κs = search needs
 
 returns-2 : tie.Need-returns-2
-returns-2 c = unknown (c .before .before .before .before .before .args .kind) (c .before .before .before .before .before .args .numbers .now) (c .before .before .before .before .before .args .gln .now) (c .before .before .before .before .before .args .out .now) (no-body _ (omega (arith, c .before .body-length .ensures)))
+returns-2 c =
+    let start = c .before .before .before .before .before in
+    unknown (start .args .kind) (start .args .numbers .now) (start .args .gln .now) (start .args .out .now)
+    (no-body _ (omega (arith, c .before .body-length .ensures)))
 
 list-right-requires : tie.Need-list-right-requires
 list-right-requires c κs = has-body _ (omega (arith, c .before .body-length .ensures))
 
 returns-3 : tie.Need-returns-3
-returns-3 c = wrong-list (c .before .before .before .before .before .before .before .args .kind) (c .before .before .before .before .before .before .before .args .numbers .now) (c .before .before .before .before .before .before .before .args .gln .now) (c .before .before .before .before .before .before .before .args .out .now) (has-body _ (omega (arith, c .before .before .before .body-length .ensures))) (c .before .list-right .ensures) (c .if3 .taken)
+returns-3 c =
+    let start = c .before .before .before .before .before .before .before in
+    wrong-list (start .args .kind) (start .args .numbers .now) (start .args .gln .now) (start .args .out .now)
+    (has-body _ (omega (arith, c .before .before .before .body-length .ensures))) (c .before .list-right .ensures) (c .if3 .taken)
 
 record-of-requires : tie.Need-record-of-requires
 record-of-requires c κs = (has-body _ (omega (arith, c .before .before .before .body-length .ensures)), right-length _ _ (sym (c .before .list-right .ensures) ∙ not-false _ (c .if3 .left)))
@@ -35,7 +43,12 @@ same-length : tie.Need-same-length
 same-length c = search needs
 
 returns-4 : tie.Need-returns-4
-returns-4 c = written-plain (c .before .before .before .before .before .before .before .before .before .before .before .before .args .kind) (c .before .before .before .before .before .before .before .before .before .before .before .before .args .numbers .now) (c .before .before .before .before .before .before .before .before .before .before .before .before .args .gln .now) (c .before .before .before .before .before .before .before .before .before .before .before .before .args .out .now) (has-body _ (omega (arith, c .before .before .before .before .before .before .before .before .body-length .ensures))) (c .before .before .before .before .before .before .list-right .ensures) (c .before .before .before .before .before .if3 .left) (rw (c .before .before .before .before .record-of .ensures) at (c .before .before .write .ensures))
+returns-4 c =
+    let start = c .before .before .before .before .before .before .before .before .before .before .before .before in
+    written-plain (start .args .kind) (start .args .numbers .now) (start .args .gln .now) (start .args .out .now)
+    (has-body _ (omega (arith, c .before .before .before .before .before .before .before .before .body-length .ensures)))
+    (c .before .before .before .before .before .before .list-right .ensures) (c .before .before .before .before .before .if3 .left)
+    (rw (c .before .before .before .before .record-of .ensures) at (c .before .before .write .ensures))
 
 pub write-plain-spec : {M : Type 1} → statement M
 write-plain-spec =

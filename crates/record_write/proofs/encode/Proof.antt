@@ -25,7 +25,10 @@ enum-known-r-2 c = search needs
 
 put-party-requires : tie.Need-put-party-requires
 unfolding body-lengths
-put-party-requires c κs = (gln-whole (c .before .before .before .before .before .before .pre) (c .before .before .r2 .given .1), omega (arith, room-of (c .before .before .before .before .before .before .pre) RRecord.partyKind (ap kindOf (c .before .before .r2 .given .1))))
+put-party-requires c κs =
+    let start = c .before .before .before .before .before .before in
+    let is = c .before .before .r2 .given .1 in
+    (gln-whole (start .pre) is, omega (arith, room-of (start .pre) RRecord.partyKind (ap kindOf is)))
 
 enum-known-r-3 : tie.Need-enum-known-r-3
 enum-known-r-3 c = search needs
@@ -46,7 +49,11 @@ enum-known-r-5 c = search needs
 
 put-price-requires : tie.Need-put-price-requires
 unfolding body-lengths
-put-price-requires c κs = let f : SFits w64 (c .before .before .r5 .given .0 .1 .0) = search needs in (rw (toZ-ofZ f) (price-small (c .before .before .before .before .before .before .pre) (c .before .before .r5 .given .1)), omega (arith, room-of (c .before .before .before .before .before .before .pre) RRecord.priceKind (ap kindOf (c .before .before .r5 .given .1))))
+put-price-requires c κs =
+    let start = c .before .before .before .before .before .before in
+    let is = c .before .before .r5 .given .1 in
+    let f : SFits w64 (c .before .before .r5 .given .0 .1 .0) = search needs in
+    (rw (toZ-ofZ f) (price-small (start .pre) is), omega (arith, room-of (start .pre) RRecord.priceKind (ap kindOf is)))
 
 enum-known-r-6 : tie.Need-enum-known-r-6
 enum-known-r-6 c = search needs
@@ -91,7 +98,9 @@ same-length-5 : tie.Need-same-length-5
 same-length-5 c = search needs
 
 returns-5 : tie.Need-returns-5
-returns-5 c = let f : SFits w64 (c .before .before .before .before .before .r5 .given .0 .1 .0) = search needs in rw (c .before .before .before .before .before .r5 .given .1) (rw (toZ-ofZ f) at (c .before .before .put-price .ensures))
+returns-5 c =
+    let f : SFits w64 (c .before .before .before .before .before .r5 .given .0 .1 .0) = search needs in
+    rw (c .before .before .before .before .before .r5 .given .1) (rw (toZ-ofZ f) at (c .before .before .put-price .ensures))
 
 same-length-6 : tie.Need-same-length-6
 same-length-6 c = search needs

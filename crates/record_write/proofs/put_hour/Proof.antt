@@ -31,7 +31,11 @@ same-length : tie.Need-same-length
 same-length c = search needs
 
 returns : tie.Need-returns
-returns c = let f : SFits w64 (c .before .before .before .before .before .before .before .before .before .before .args .f .«net_wh») = search needs in c .before .before .put-all .ensures ∙ ap (sets _ 0) (hour-glued _ (c .before .before .before .before .before .before .before .before .before .before .fits .sort .fits) _ _ f (c .before .before .before .before .before .before .unsigned .ensures))
+returns c =
+    let start = c .before .before .before .before .before .before .before .before .before .before in
+    let f : SFits w64 (start .args .f .«net_wh») = search needs in
+    let bits = c .before .before .before .before .before .before .unsigned .ensures in
+    c .before .before .put-all .ensures ∙ ap (sets _ 0) (hour-glued _ (start .fits .sort .fits) _ _ f bits)
 
 pub put-hour-spec : {M : Type 1} → statement M
 put-hour-spec =

@@ -17,7 +17,11 @@ same-length : tie.Need-same-length
 same-length c = search needs
 
 returns : tie.Need-returns
-returns c = party-put _ _ (c .before .before .before .before .before .before .before .before .before .before .before .before .before .before .pre .0) _ (c .before .before .before .before .before .before .before .before .before .before .put-number .ensures) (c .before .before .before .before .before .before .put-bytes .ensures) (c .before .before .put-number2 .ensures)
+returns c =
+    let start = c .before .before .before .before .before .before .before .before .before .before .before .before .before .before in
+    let kind = c .before .before .before .before .before .before .before .before .before .before .put-number .ensures in
+    let gln = c .before .before .before .before .before .before .put-bytes .ensures in
+    party-put _ _ (start .pre .0) _ kind gln (c .before .before .put-number2 .ensures)
 
 pub put-party-spec : {M : Type 1} → statement M
 put-party-spec =

@@ -25,7 +25,10 @@ same-length : tie.Need-same-length
 same-length c = search needs
 
 returns : tie.Need-returns
-returns c = c .before .before .put-all .ensures ∙ ap (sets _ 0) (price-glued _ _ (c .before .before .before .before .before .before .before .before .fits .price-ore) (c .before .before .before .before .before .before .unsigned .ensures))
+returns c =
+    let start = c .before .before .before .before .before .before .before .before in
+    let bits = c .before .before .before .before .before .before .unsigned .ensures in
+    c .before .before .put-all .ensures ∙ ap (sets _ 0) (price-glued _ _ (start .fits .price-ore) bits)
 
 pub put-price-spec : {M : Type 1} → statement M
 put-price-spec =

@@ -20,16 +20,27 @@ add-n : tie.Need-add-n
 add-n c = omega (arith, c .body-length .ensures ∙ ap bodyLength (c .before .kind-of .ensures), body-short (kindOf (c .before .before .before .before .args .r)))
 
 returns : tie.Need-returns
-returns c = too-short (c .before .before .before .before .before .args .gln .now) (c .before .before .before .before .before .args .r) (c .before .before .before .before .before .args .out .now) (c .before .before .before .before .before .pre) (omega (arith, c .before .body-length .ensures ∙ ap bodyLength (c .before .before .kind-of .ensures)))
+returns c =
+    let start = c .before .before .before .before .before in
+    too-short (start .args .gln .now) (start .args .r) (start .args .out .now) (start .pre)
+    (omega (arith, c .before .body-length .ensures ∙ ap bodyLength (c .before .before .kind-of .ensures)))
 
 encode-requires : tie.Need-encode-requires
-encode-requires c κs = record { sound = c .before .before .before .before .before .before .pre; room = omega (arith, c .before .before .body-length .ensures ∙ ap bodyLength (c .before .before .before .kind-of .ensures), size-is (c .before .before .before .before .before .before .args .gln .now) (c .before .before .before .before .before .before .args .r) (c .before .before .before .before .before .before .pre)) }
+encode-requires c κs =
+    let start = c .before .before .before .before .before .before in
+    let kind = c .before .before .body-length .ensures ∙ ap bodyLength (c .before .before .before .kind-of .ensures) in
+    let size = size-is (start .args .gln .now) (start .args .r) (start .pre) in
+    record { sound = start .pre; room = omega (arith, kind, size) }
 
 same-length : tie.Need-same-length
 same-length c = search needs
 
 returns-2 : tie.Need-returns-2
-returns-2 c = has-room (c .before .before .before .before .before .before .before .before .before .args .gln .now) (c .before .before .before .before .before .before .before .before .before .args .r) (c .before .before .before .before .before .before .before .before .before .args .out .now) (c .before .before .before .before .before .before .before .before .before .pre) (ap (λ (n : ℕ). 1 + n) (c .before .before .before .before .before .body-length .ensures ∙ ap bodyLength (c .before .before .before .before .before .before .kind-of .ensures))) (omega arith) (c .before .before .encode .ensures)
+returns-2 c =
+    let start = c .before .before .before .before .before .before .before .before .before in
+    has-room (start .args .gln .now) (start .args .r) (start .args .out .now) (start .pre)
+    (ap (λ (n : ℕ). 1 + n) (c .before .before .before .before .before .body-length .ensures ∙ ap bodyLength (c .before .before .before .before .before .before .kind-of .ensures)))
+    (omega arith) (c .before .before .encode .ensures)
 
 pub put-record-spec : {M : Type 1} → statement M
 put-record-spec =

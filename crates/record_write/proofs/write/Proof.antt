@@ -21,7 +21,9 @@ same-length : tie.Need-same-length
 same-length c = search needs
 
 returns : tie.Need-returns
-returns c = verdict-of-room _ _ _ _ (c .before .before .before .before .before .before .fault .ensures) (c .before .before .before .before .enum-told .given .1) (c .before .before .put-record .ensures)
+returns c =
+    verdict-of-room _ _ _ _ (c .before .before .before .before .before .before .fault .ensures) (c .before .before .before .before .enum-told .given .1)
+    (c .before .before .put-record .ensures)
 
 returns-2 : tie.Need-returns-2
 returns-2 c = verdict-of-fault _ _ _ _ (c .before .before .before .fault .ensures) (c .before .a .given .1)

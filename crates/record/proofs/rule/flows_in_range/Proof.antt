@@ -15,7 +15,9 @@ is-zero-requires c κs = search needs
 
 returns : tie.Need-returns
 unfolding flowsInRange silentIsZero
-returns c = let f : SFits w64 (c .before .before .before .before .before .before .before .before .before .before .before .before .args .f .«net_wh») = search needs in rw (c .before .before .before .before .before .before .before .before .before .net-in-range .ensures, c .before .before .before .before .is-zero .ensures, toZ-ofZ f)
+returns c =
+    let f : SFits w64 (c .before .before .before .before .before .before .before .before .before .before .before .before .args .f .«net_wh») = search needs in
+    rw (c .before .before .before .before .before .before .before .before .before .net-in-range .ensures, c .before .before .before .before .is-zero .ensures, toZ-ofZ f)
 
 pub flows-in-range-spec : {M : Type 1} → statement M
 flows-in-range-spec = tie.close (tie.spec net-in-range-requires is-zero-requires returns)
