@@ -19,8 +19,8 @@ settled-requires c κs = c .before .before .before .before .before .before .befo
 
 put-hour-requires : tie.Need-put-hour-requires
 put-hour-requires c κs =
-    let start = begins (c .before .before .before .before) in
-    hour-lent (start .pre .0) (start .pre .1 .0) (omega arith) (start .pre .1 .1)
+    hour-lent (begins (c .before .before .before .before) .pre .0) (begins (c .before .before .before .before) .pre .1 .0) (omega arith)
+    (begins (c .before .before .before .before) .pre .1 .1)
 
 same-length : tie.Need-same-length
 same-length c = search needs

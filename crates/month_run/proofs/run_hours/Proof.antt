@@ -54,9 +54,9 @@ mul-run-hour c =
 
 shared-slice-read-run-hour : tie.Need-shared-slice-read-run-hour Inv-loop μ-loop
 shared-slice-read-run-hour c =
-    let loop = loops (c .before .before .before) in
-    let start = begins loop in
-    residual-here (start .pre .0) (start .pre .1 .1 .1 .inside) (loop .loop .inv) (omega arith)
+    residual-here (begins (loops (c .before .before .before)) .pre .0) (begins (loops (c .before .before .before)) .pre .1 .1 .1 .inside)
+    (loops (c .before .before .before) .loop .inv)
+    (omega arith)
 
 run-hour-requires : tie.Need-run-hour-requires Inv-loop μ-loop
 run-hour-requires c κs =
