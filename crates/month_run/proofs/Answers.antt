@@ -26,7 +26,11 @@ module _ (file : List ℕ) (start hours : ℕ) (d : List ℤ) (p : List ℕ) (x 
   asked = askedVerdict (H (monthOf file)) (P (monthOf file)) start hours (length d) (length p) (length x) (length l)
 
   -- a refused call leaves every lent output as it was
-  pub refused-call : {r : Answer} {v : Refusal} {place : ℕ} → r ≡ Refused v place → said r ≡ runVerdict file start hours (length d) (length p) (length x) (length l) → Promised file start hours r d p x l d p x l
+  pub refused-call :
+      {r : Answer} {v : Refusal} {place : ℕ}
+      → r ≡ Refused v place
+      → said r ≡ runVerdict file start hours (length d) (length p) (length x) (length l)
+      → Promised file start hours r d p x l d p x l
   unfolding afterwards
   refused-call {r} {v} {place} e is =
       record { answer = is; distributed = rw e refl; periodised = rw e refl; differences = rw e refl; losses = rw e refl }
@@ -53,7 +57,9 @@ module _ {file : List ℕ} {s : Sections} (ok : Accepted file s) (none : MonthAc
       both : (inMonth (s .heading .hours) start hours ≡ true) × (lentRight (hours * s .heading .parties) hours d p x l ≡ true)
       unfolding askedVerdict
       both =
-          let two = both-accept (unless (inMonth (s .heading .hours) start hours) outOfRange 0) (unless (lentRight (hours * s .heading .parties) hours d p x l) wrongLength 0) (sym judged ∙ ap said passed) in
+          let inside : Verdict = unless (inMonth (s .heading .hours) start hours) outOfRange 0 in
+          let fit : Verdict = unless (lentRight (hours * s .heading .parties) hours d p x l) wrongLength 0 in
+          let two = both-accept inside fit (sym judged ∙ ap said passed) in
           (unless-exactly _ outOfRange 0 .0 (two .0), unless-exactly _ wrongLength 0 .0 (two .1))
 
       sizes : (d ≡ hours * s .heading .parties) × (p ≡ hours * s .heading .parties) × (x ≡ hours * s .heading .parties) × (l ≡ hours)
@@ -64,15 +70,32 @@ module _ {file : List ℕ} {s : Sections} (ok : Accepted file s) (none : MonthAc
 
       pub run-lent : RunLent (monthOf file) start d p x l
       run-lent =
-          record { inside = omega (arith, run-inside (s .heading .hours) start hours (both .0) .1, sizes .3, hours-are file s ok); distributed-size = as-many (sizes .0); periodised-size = as-many (sizes .1); differences-size = as-many (sizes .2) }
+          record {
+            inside = omega (arith, run-inside (s .heading .hours) start hours (both .0) .1, sizes .3, hours-are file s ok);
+            distributed-size = as-many (sizes .0);
+            periodised-size = as-many (sizes .1);
+            differences-size = as-many (sizes .2);
+          }
 
-  module _ (start hours : ℕ) (d : List ℤ) (p : List ℕ) (x l : List ℤ) {right : Answer} (judged : said right ≡ askedVerdict (s .heading .hours) (s .heading .parties) start hours (length d) (length p) (length x) (length l)) where
+  module _ (start hours : ℕ) (d : List ℤ) (p : List ℕ) (x l : List ℤ) {right : Answer}
+      (judged : said right ≡ askedVerdict (s .heading .hours) (s .heading .parties) start hours (length d) (length p) (length x) (length l)) where
     -- 4 or 16
     pub refused-run : {v : Refusal} {place : ℕ} → right ≡ Refused v place → Promised file start hours right d p x l d p x l
     refused-run e = refused-call file start hours d p x l e (run-verdict start hours (length d) (length p) (length x) (length l) right judged)
 
-    pub written : right ≡ Done → {d′ : List ℤ} {p′ : List ℕ} {x′ l′ : List ℤ} → RunIs (monthOf file) start (length l) d′ p′ x′ l′ → Promised file start hours Done d p x l d′ p′ x′ l′
+    pub written :
+        right ≡ Done
+        → {d′ : List ℤ} {p′ : List ℕ} {x′ l′ : List ℤ}
+        → RunIs (monthOf file) start (length l) d′ p′ x′ l′
+        → Promised file start hours Done d p x l d′ p′ x′ l′
     unfolding afterwards
     written passed {d′} {p′} {x′} {l′} r =
-        let run : RunIs (monthOf file) start hours d′ p′ x′ l′ = subst (λ (h : ℕ). RunIs (monthOf file) start h d′ p′ x′ l′) (sizes start hours (length d) (length p) (length x) (length l) right judged passed .3) r in
-        record { answer = sym (ap said passed) ∙ run-verdict start hours (length d) (length p) (length x) (length l) right judged; distributed = run .distributed; periodised = run .periodised; differences = run .differences; losses = run .losses }
+        let as-many : length l ≡ hours = sizes start hours (length d) (length p) (length x) (length l) right judged passed .3 in
+        let run = subst (λ (h : ℕ). RunIs (monthOf file) start h d′ p′ x′ l′) as-many r in
+        record {
+          answer = sym (ap said passed) ∙ run-verdict start hours (length d) (length p) (length x) (length l) right judged;
+          distributed = run .distributed;
+          periodised = run .periodised;
+          differences = run .differences;
+          losses = run .losses;
+        }

@@ -57,7 +57,12 @@ module _ {file : List ℕ} {s : Sections} {applied curveNumbers beginnings : Lis
     where
       none-run : Running m start (length l) 0 d p x l
       none-run =
-          record { distributed = none-filled start (P m) (distributedInRun m start) (lent .distributed-size); periodised = none-filled start (P m) (periodisedInRun m start) (lent .periodised-size); differences = none-filled start (P m) (differenceInRun m start) (lent .differences-size); losses = none-lost start (lossInRun m start) refl }
+          record {
+            distributed = none-filled start (P m) (distributedInRun m start) (lent .distributed-size);
+            periodised = none-filled start (P m) (periodisedInRun m start) (lent .periodised-size);
+            differences = none-filled start (P m) (differenceInRun m start) (lent .differences-size);
+            losses = none-lost start (lossInRun m start) refl;
+          }
 
   -- an hour is left
   module _ {start hours : ℕ} (inside : start + hours ≤ H m) {window : List ℕ} {w : Walk} {d : List ℤ} {p : List ℕ} {x l : List ℤ}
@@ -103,8 +108,17 @@ module _ {file : List ℕ} {s : Sections} {applied curveNumbers beginnings : Lis
           record { walked = on .walked; bound = bound; running = subst (λ (t : ℕ). Running m start hours t d′ p′ x′ l′) (sym one-on) same }
 
   -- none is left
-  pub ends : {start hours : ℕ} {window : List ℕ} {w : Walk} {d : List ℤ} {p : List ℕ} {x l : List ℤ} → Going m start hours window w d p x l → start + hours ≤ w .t → RunIs m start hours d p x l
+  pub ends :
+      {start hours : ℕ} {window : List ℕ} {w : Walk} {d : List ℤ} {p : List ℕ} {x l : List ℤ}
+      → Going m start hours window w d p x l
+      → start + hours ≤ w .t
+      → RunIs m start hours d p x l
   ends {start} {hours} {window} {w} g b =
       let e : w .t - start ≡ hours = omega (arith, g .bound) in
       let all : hours * P m ≤ (w .t - start) * P m = rw e (le-refl (hours * P m)) in
-      record { distributed = fill-end (g .running .distributed) all; periodised = fill-end (g .running .periodised) all; differences = fill-end (g .running .differences) all; losses = fill-end (g .running .losses) (omega (arith, e)) }
+      record {
+        distributed = fill-end (g .running .distributed) all;
+        periodised = fill-end (g .running .periodised) all;
+        differences = fill-end (g .running .differences) all;
+        losses = fill-end (g .running .losses) (omega (arith, e));
+      }

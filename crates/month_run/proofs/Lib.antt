@@ -1,6 +1,5 @@
 pub mod Verdicts
 pub mod Answers
-pub mod Putting
 pub mod OneHour
 pub mod Going
 pub mod Making

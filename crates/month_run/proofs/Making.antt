@@ -22,7 +22,9 @@ use Rattle.rules.specs.MonthFile.{MonthFile}
 pub none-refuses : {m : MonthFile} {outcome : Outcome} → OutcomeIs m outcome → outcome .answer ≡ Done → MonthAccepted m
 none-refuses told done = record { accepts = sym (told .verdict) ∙ ap said done }
 
-module _ {file : List ℕ} {s : Sections} (ok : Accepted file s) {made : Made} {fixed refixed numbers begun : List ℕ} (is : MadeIs (monthOf file) made fixed refixed numbers begun) (none : MonthAccepted (monthOf file)) where
+module _ {file : List ℕ} {s : Sections} (ok : Accepted file s)
+    {made : Made} {fixed refixed numbers begun : List ℕ} (is : MadeIs (monthOf file) made fixed refixed numbers begun)
+    (none : MonthAccepted (monthOf file)) where
   pub run-known : {has : Bool} → has ≡ not (eqb (s .refixed) 0) → {applied : List ℕ} → applied ≡ appliedOf fixed refixed has → RunKnown file s applied numbers begun
   run-known by e = record { month = C.month-known file s ok (C.all-made is (none .accepts)) by e; none-refuses = none }
 

@@ -24,7 +24,11 @@ use Rattle.rules.proofs.Loops.{figures-at}
 use Rattle.rules.proofs.Sums.{sum-cong}
 
 -- what stands for a party and an hour of a run of all hours
-there : {A : Type 0} (figure : ℕ → ℕ → A) (nothing : A) (hours n t i : ℕ) → t < hours → i < n → getD (figures (hours * n) (λ k. figure (0 + k / n) (k % n))) (t * n + i) nothing ≡ figure t i
+there :
+    {A : Type 0} (figure : ℕ → ℕ → A) (nothing : A) (hours n t i : ℕ)
+    → t < hours
+    → i < n
+    → getD (figures (hours * n) (λ k. figure (0 + k / n) (k % n))) (t * n + i) nothing ≡ figure t i
 there figure nothing hours n t i b l =
     figures-at (hours * n) (λ k. figure (0 + k / n) (k % n)) (t * n + i) nothing (omega (arith, mul-le-mul-right n b))
     ∙ in-run figure n 0 t i l
@@ -65,7 +69,10 @@ module _ {file : List ℕ} {d₀ : List ℤ} {p₀ : List ℕ} {x₀ l₀ d : Li
       ∙ ap (loss m) (zero-add t)))
 
 -- two answers with lent outputs that both meet the promise are equal
-module _ (file : List ℕ) (start hours : ℕ) {a b : Answer} {d₀ : List ℤ} {p₀ : List ℕ} {x₀ l₀ d d′ : List ℤ} {p p′ : List ℕ} {x l x′ l′ : List ℤ} (u : Promised file start hours a d₀ p₀ x₀ l₀ d p x l) (v : Promised file start hours b d₀ p₀ x₀ l₀ d′ p′ x′ l′) where
+module _ (file : List ℕ) (start hours : ℕ) {a b : Answer}
+    {d₀ : List ℤ} {p₀ : List ℕ} {x₀ l₀ d d′ : List ℤ} {p p′ : List ℕ} {x l x′ l′ : List ℤ}
+    (u : Promised file start hours a d₀ p₀ x₀ l₀ d p x l)
+    (v : Promised file start hours b d₀ p₀ x₀ l₀ d′ p′ x′ l′) where
   alike : said a ≡ said b
   alike = u .answer ∙ sym (v .answer)
 
@@ -73,5 +80,10 @@ module _ (file : List ℕ) (start hours : ℕ) {a b : Answer} {d₀ : List ℤ} 
   held new old e f = e ∙ ap (λ (w : Verdict). afterwards w new old) alike ∙ sym f
 
   pub hours-unique : (a ≡ b) × (d ≡ d′) × (p ≡ p′) × (x ≡ x′) × (l ≡ l′)
-  hours-unique =
-      (said-once a b alike, held _ d₀ (u .distributed) (v .distributed), held _ p₀ (u .periodised) (v .periodised), held _ x₀ (u .differences) (v .differences), held _ l₀ (u .losses) (v .losses))
+  hours-unique = (
+    said-once a b alike,
+    held _ d₀ (u .distributed) (v .distributed),
+    held _ p₀ (u .periodised) (v .periodised),
+    held _ x₀ (u .differences) (v .differences),
+    held _ l₀ (u .losses) (v .losses),
+  )

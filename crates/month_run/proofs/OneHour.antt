@@ -31,10 +31,19 @@ in-run figure n start t i l =
     ap₂ (λ (h p : ℕ). figure (start + h) p) (at-place n t i l .0) (at-place n t i l .1)
 
 -- before the run begins nothing is written
-pub not-begun : {m : MonthFile} {start all t : ℕ} {d : List ℤ} {p : List ℕ} {x l : List ℤ} → Running m start all t d p x l → t < start → Running m start all (t + 1) d p x l
+pub not-begun :
+    {m : MonthFile} {start all t : ℕ} {d : List ℤ} {p : List ℕ} {x l : List ℤ}
+    → Running m start all t d p x l
+    → t < start
+    → Running m start all (t + 1) d p x l
 not-begun {m} {start} {all} {t} {d} {p} {x} {l} g b =
     let e : t - start ≡ t + 1 - start = omega arith in
-    record { distributed = subst (λ (j : ℕ). Filling (distributedInRun m start) (all * P m) d (j * P m)) e (g .distributed); periodised = subst (λ (j : ℕ). Filling (periodisedInRun m start) (all * P m) p (j * P m)) e (g .periodised); differences = subst (λ (j : ℕ). Filling (differenceInRun m start) (all * P m) x (j * P m)) e (g .differences); losses = subst (λ (j : ℕ). Filling (lossInRun m start) all l j) e (g .losses) }
+    record {
+      distributed = subst (λ (j : ℕ). Filling (distributedInRun m start) (all * P m) d (j * P m)) e (g .distributed);
+      periodised = subst (λ (j : ℕ). Filling (periodisedInRun m start) (all * P m) p (j * P m)) e (g .periodised);
+      differences = subst (λ (j : ℕ). Filling (differenceInRun m start) (all * P m) x (j * P m)) e (g .differences);
+      losses = subst (λ (j : ℕ). Filling (lossInRun m start) all l j) e (g .losses);
+    }
 
 module _ {file : List ℕ} {s : Sections} {t residual : ℕ} {v : Held} {figures : List ℤ} {window : List ℕ} (h : HourAsked file s t residual v figures window)
     {start all : ℕ} (b : t < start + all) (begun : start ≤ t)
@@ -56,12 +65,19 @@ module _ {file : List ℕ} {s : Sections} {t residual : ℕ} {v : Held} {figures
 
   lent-for : HourLent (P m) j (length d) (length p) (length x) (length l)
   lent-for =
-      record { few = few-parties m (h .judged); distributed-fits = omega (arith, room, g .distributed .size); periodised-fits = omega (arith, room, g .periodised .size); differences-fits = omega (arith, room, g .differences .size); losses-fit = omega (arith, inside, g .losses .size) }
+      record {
+        few = few-parties m (h .judged);
+        distributed-fits = omega (arith, room, g .distributed .size);
+        periodised-fits = omega (arith, room, g .periodised .size);
+        differences-fits = omega (arith, room, g .differences .size);
+        losses-fit = omega (arith, inside, g .losses .size);
+      }
 
   pub hour-lent : HourLent (s .heading .parties) j (length d) (length p) (length x) (length l)
   hour-lent = rw n-is lent-for
 
-  module _ {settled : Settled} (is : SettledIs m t settled) {d′ : List ℤ} {p′ : List ℕ} {x′ l′ : List ℤ} (put : HourWritten settled (s .heading .parties) j d p x l d′ p′ x′ l′) where
+  module _ {settled : Settled} (is : SettledIs m t settled) {d′ : List ℤ} {p′ : List ℕ} {x′ l′ : List ℤ}
+      (put : HourWritten settled (s .heading .parties) j d p x l d′ p′ x′ l′) where
     written : HourWritten settled (P m) j d p x l d′ p′ x′ l′
     written = subst (λ (n : ℕ). HourWritten settled n j d p x l d′ p′ x′ l′) n-is put
 

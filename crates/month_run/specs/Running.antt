@@ -3,7 +3,8 @@ use mathlib.Core.List.{List}
 use mathlib.Core.Path.{_≡_}
 use Prim.Native.Nat.{ℕ, _+_, _-_, _*_, _≤_, _<_}
 use lib.IntN.{ℤ, pos}
-use lib.ListN.{length, getD, set}
+use lib.ListN.{set}
+use Rattle.distribute.specs.Written.{FilledOn}
 use Rattle.file_sections.specs.declared.Sections.{Sections}
 use Rattle.hour_settled.specs.declared.Settled.{Settled}
 use Rattle.month_walk.specs.Walking.{MonthKnown}
@@ -30,15 +31,6 @@ pub record RunLent (m : MonthFile) (start distributed periodised differences los
   pub distributed-size : distributed ≡ losses * P m
   pub periodised-size : periodised ≡ losses * P m
   pub differences-size : differences ≡ losses * P m
-
--- whatever series a list is being filled with, it is filled n places further if the figures are the series'
-abbrev pub FilledOn : {A : Type 0} → A → List A → ℕ → ℕ → List A → List A → Type 0
-FilledOn {A} nothing written n place before after =
-    (series : ℕ → A) (size : ℕ)
-    → Filling series size before place
-    → place + n ≤ size
-    → ((i : ℕ) → i < n → getD written i nothing ≡ series (place + i))
-    → Filling series size after (place + n)
 
 -- THE HOURS OF THE RUN BEFORE HOUR t ARE WRITTEN: none of them before the run begins
 pub record Running (m : MonthFile) (start hours t : ℕ) (d : List ℤ) (p : List ℕ) (x l : List ℤ) : Type 0 where

@@ -1,4 +1,3 @@
-pub mod Sizes
 pub mod Adding
 pub mod Going
 pub mod Chain

@@ -6,7 +6,7 @@ use native.Mathlib.Omega.{arith}
 use lib.IntN.{ℤ, pos, _-ℤ_}
 use lib.ListN.{length, getD}
 use Rattle.report_text.specs.Lines.{Known, Inside}
-use Rattle.month_sums.proofs.Sizes.{few-hours}
+use Rattle.month_prepare.proofs.Preparing.{few-hours}
 use Rattle.file_fields.specs.Fields.{FixedAsked}
 use Rattle.file_sections.specs.declared.Sections.{Sections}
 use Rattle.file_sections.proofs.AcceptedFile.{month-whole, hours-are}

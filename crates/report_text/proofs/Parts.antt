@@ -7,7 +7,7 @@ use native.Mathlib.Nat.{zero-add, eq-zero-or-pos, min-eq-left, min-eq-right, min
 use native.Mathlib.Omega.{arith}
 use lib.ListN.{length}
 use Rattle.report_text.specs.Lines.{firstHours, firstRoom, restRoom, lineFrom, firstPart, restPart, partiesPart, Inside, FirstAsked}
-use Rattle.month_sums.proofs.Sizes.{few-hours}
+use Rattle.month_prepare.proofs.Preparing.{few-hours}
 use Rattle.file_sections.specs.Walk.{Accepted}
 use Rattle.file_sections.specs.declared.Sections.{Sections}
 use Rattle.file_sections.proofs.AcceptedFile.{hours-are, heading-text}

@@ -8,7 +8,7 @@ use lib.IntN.{ℤ, pos}
 use lib.ListN.{length, getD}
 use Rattle.report_distances.specs.declared.Distances.{Distances}
 use Rattle.report_text.specs.Lines as L
-use Rattle.month_sums.proofs.Sizes.{few-parties}
+use Rattle.month_prepare.proofs.Preparing.{few-parties}
 use Rattle.file_fields.specs.Fields.{PartyAsked, GlnIs}
 use Rattle.file_sections.specs.declared.Sections.{Sections}
 use Rattle.file_sections.proofs.AcceptedFile.{parties-are}

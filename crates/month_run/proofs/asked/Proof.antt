@@ -20,16 +20,25 @@ returns : tie.Need-returns
 returns c = outside _ _ _ _ _ _ _ _ (sym (c .before .in-month .ensures) ∙ not-true _ (c .if1 .taken))
 
 mul-lent-right : tie.Need-mul-lent-right
-mul-lent-right c = omega (arith, product-fits (c .before .before .before .before .args .s .heading .hours) (c .before .before .before .before .args .start) (c .before .before .before .before .args .hours) (c .before .before .before .before .args .s .heading .parties) (search needs) (search needs) (sym (c .before .in-month .ensures) ∙ not-false _ (c .if1 .left)))
+mul-lent-right c =
+    let given = c .before .before .before .before .args in
+    let inside = sym (c .before .in-month .ensures) ∙ not-false _ (c .if1 .left) in
+    omega (arith, product-fits (given .s .heading .hours) (given .start) (given .hours) (given .s .heading .parties) (search needs) (search needs) inside)
 
 lent-right-requires : tie.Need-lent-right-requires
 lent-right-requires c κs = search needs
 
 returns-2 : tie.Need-returns-2
-returns-2 c = wrong-lengths _ _ _ _ _ _ _ _ (sym (c .before .before .before .in-month .ensures) ∙ not-false _ (c .before .before .if1 .left)) (sym (c .before .lent-right .ensures) ∙ not-true _ (c .if2 .taken))
+returns-2 c =
+    wrong-lengths _ _ _ _ _ _ _ _
+    (sym (c .before .before .before .in-month .ensures) ∙ not-false _ (c .before .before .if1 .left))
+    (sym (c .before .lent-right .ensures) ∙ not-true _ (c .if2 .taken))
 
 returns-3 : tie.Need-returns-3
-returns-3 c = right _ _ _ _ _ _ _ _ (sym (c .before .before .before .in-month .ensures) ∙ not-false _ (c .before .before .if1 .left)) (sym (c .before .lent-right .ensures) ∙ not-false _ (c .if2 .left))
+returns-3 c =
+    right _ _ _ _ _ _ _ _
+    (sym (c .before .before .before .in-month .ensures) ∙ not-false _ (c .before .before .if1 .left))
+    (sym (c .before .lent-right .ensures) ∙ not-false _ (c .if2 .left))
 
 pub asked-spec : {M : Type 1} → statement M
 asked-spec =

@@ -28,7 +28,9 @@ enum-told-2 : tie.Need-enum-told-2
 enum-told-2 c = search needs
 
 returns : tie.Need-returns
-returns c = refused-file _ _ _ _ _ _ _ (c .enum-told2 .given .1) (month-refused _ _ (c .before .before .before .before .before .pre) (c .before .before .settle-read .ensures) (c .enum-told2 .given .1))
+returns c =
+    refused-file _ _ _ _ _ _ _ (c .enum-told2 .given .1)
+    (month-refused _ _ (c .before .before .before .before .before .pre) (c .before .before .settle-read .ensures) (c .enum-told2 .given .1))
 
 asked-requires : tie.Need-asked-requires
 asked-requires c κs = search needs
@@ -40,10 +42,17 @@ enum-told-4 : tie.Need-enum-told-4
 enum-told-4 c = search needs
 
 returns-2 : tie.Need-returns-2
-returns-2 c = refused-run (begins (c .before .before) .pre) (none-refuses (settles (c .before .before) .settle-read .ensures) (judges (c .before .before) .enum-told .given .1)) _ _ _ _ _ _ (c .before .before .asked .ensures) (c .enum-told4 .given .1)
+returns-2 c =
+    let asked = c .before .before in
+    let none = none-refuses (settles asked .settle-read .ensures) (judges asked .enum-told .given .1) in
+    refused-run (begins asked .pre) none _ _ _ _ _ _ (asked .asked .ensures) (c .enum-told4 .given .1)
 
 run-requires : tie.Need-run-requires
-run-requires c κs = ((begins (asks (c .before .before .before .before)) .pre), ((none-refuses (settles (asks (c .before .before .before .before)) .settle-read .ensures) (judges (asks (c .before .before .before .before)) .enum-told .given .1)), run-lent (begins (asks (c .before .before .before .before)) .pre) (none-refuses (settles (asks (c .before .before .before .before)) .settle-read .ensures) (judges (asks (c .before .before .before .before)) .enum-told .given .1)) _ _ _ _ _ _ _ (asks (c .before .before .before .before) .asked .ensures) ((c .before .before .before .before) .enum-told3 .given .1)))
+run-requires c κs =
+    let passed = c .before .before .before .before in
+    let asked = asks passed in
+    let none = none-refuses (settles asked .settle-read .ensures) (judges asked .enum-told .given .1) in
+    (begins asked .pre, (none, run-lent (begins asked .pre) none _ _ _ _ _ _ _ (asked .asked .ensures) (passed .enum-told3 .given .1)))
 
 same-length : tie.Need-same-length
 same-length c = c .before .before .before .before .distributed-wh .given
@@ -58,7 +67,12 @@ same-length-4 : tie.Need-same-length-4
 same-length-4 c = c .losses-wh .given
 
 returns-3 : tie.Need-returns-3
-returns-3 c = written (begins (asks (c .before .before .before .before .before .before .before .before .before .before)) .pre) (none-refuses (settles (asks (c .before .before .before .before .before .before .before .before .before .before)) .settle-read .ensures) (judges (asks (c .before .before .before .before .before .before .before .before .before .before)) .enum-told .given .1)) _ _ _ _ _ _ (asks (c .before .before .before .before .before .before .before .before .before .before) .asked .ensures) ((c .before .before .before .before .before .before .before .before .before .before) .enum-told3 .given .1) (c .before .before .before .before .before .run .ensures)
+returns-3 c =
+    let done = c .before .before .before .before .before in
+    let passed = done .before .before .before .before .before in
+    let asked = asks passed in
+    let none = none-refuses (settles asked .settle-read .ensures) (judges asked .enum-told .given .1) in
+    written (begins asked .pre) none _ _ _ _ _ _ (asked .asked .ensures) (passed .enum-told3 .given .1) (done .run .ensures)
 
 pub hours-accepted-spec : {M : Type 1} → statement M
 hours-accepted-spec =

@@ -16,14 +16,14 @@ mul-place c = omega (arith, c .before .pre .distributed-fits)
 put-loss-requires : tie.Need-put-loss-requires
 put-loss-requires c κs = omega (arith, c .before .before .before .before .before .before .pre .losses-fit)
 
-put-signed-requires : tie.Need-put-signed-requires
-put-signed-requires c κs = search needs
+put-figures-requires : tie.Need-put-figures-requires
+put-figures-requires c κs = search needs
 
 put-wh-requires : tie.Need-put-wh-requires
 put-wh-requires c κs = search needs
 
-put-signed-requires-2 : tie.Need-put-signed-requires-2
-put-signed-requires-2 c κs = search needs
+put-figures-requires-2 : tie.Need-put-figures-requires-2
+put-figures-requires-2 c κs = search needs
 
 same-length : tie.Need-same-length
 same-length c = search needs
@@ -38,7 +38,18 @@ same-length-4 : tie.Need-same-length-4
 same-length-4 c = search needs
 
 returns : tie.Need-returns
-returns c = let fits : SFits w64 (c .before .before .before .before .before .before .before .before .before .before .before .before .before .before .before .before .before .before .before .before .before .args .settled .«loss_wh») = record { sfits = c .before .before .before .before .before .before .before .before .before .before .before .before .before .before .before .before .struct-told .given .1 .1 .1 .1 .0 .1 } in record { distributed = c .before .before .before .before .before .before .before .before .before .before .put-signed .ensures; periodised = c .before .before .before .before .before .before .put-wh .ensures; differences = c .before .put-signed2 .ensures; losses = c .before .before .before .before .before .before .before .before .before .before .before .before .before .before .put-loss .ensures ∙ ap (λ (z : ℤ). set (c .before .before .before .before .before .before .before .before .before .before .before .before .before .before .before .before .before .before .before .before .before .args .losses-wh .now) (c .before .before .before .before .before .before .before .before .before .before .before .before .before .before .before .before .before .before .before .before .before .args .j) z) (toZ-ofZ fits) }
+returns c =
+    let after-signed = c .before .before .before .before .before .before .before .before .before .before in
+    let after-loss = after-signed .before .before .before .before in
+    let told = after-loss .before .before in
+    let given = told .before .before .before .before .before .args in
+    let fits : SFits w64 (given .settled .«loss_wh») = record { sfits = told .struct-told .given .1 .1 .1 .1 .0 .1 } in
+    record {
+      distributed = after-signed .put-figures .ensures .fills;
+      periodised = c .before .before .before .before .before .before .put-wh .ensures .fills;
+      differences = c .before .put-figures2 .ensures .fills;
+      losses = after-loss .put-loss .ensures ∙ ap (λ (z : ℤ). set (given .losses-wh .now) (given .j) z) (toZ-ofZ fits);
+    }
 
 pub put-hour-spec : {M : Type 1} → statement M
 put-hour-spec =
@@ -46,9 +57,9 @@ put-hour-spec =
     (tie.spec
     mul-place
     put-loss-requires
-    put-signed-requires
+    put-figures-requires
     put-wh-requires
-    put-signed-requires-2
+    put-figures-requires-2
     same-length
     same-length-2
     same-length-3

@@ -1,7 +1,7 @@
 -- `month_run::put_wh` meets its contract: whatever series the list is filled with, each turn fills one place more. Assumes nothing.
 use Prim.Native.Nat.{_-_}
 use native.Mathlib.Omega.{arith}
-use Rattle.month_run.proofs.Putting.{Putting, put-start, put-next, put-end}
+use Rattle.distribute.proofs.Putting.{Putting, put-start, put-next, put-end}
 use borrow.Author.Needs.{needs}
 use Rattle.month_run.proofs.put_wh.Statement.{statement}
 use Rattle.month_run.proofs.put_wh.Tie as tie

@@ -77,7 +77,13 @@ part-window-end : tie.Need-part-window-end
 part-window-end c = search needs
 
 run-hours-requires : tie.Need-run-hours-requires
-run-hours-requires c κs = (Making.run-known (begins (places (c .before .before .before .before .before .before .before .before .before .before)) .pre .0) (as-lent (begins (places (c .before .before .before .before .before .before .before .before .before .before)) .pre .0) (prepares (places (c .before .before .before .before .before .before .before .before .before .before)) .prepare .ensures)) (begins (places (c .before .before .before .before .before .before .before .before .before .before)) .pre .1 .0) refl ((c .before .before .before .before .before .before .before .before .before .before) .applied .ensures), (Making.begins (begins (places (c .before .before .before .before .before .before .before .before .before .before)) .pre .0) (as-lent (begins (places (c .before .before .before .before .before .before .before .before .before .before)) .pre .0) (prepares (places (c .before .before .before .before .before .before .before .before .before .before)) .prepare .ensures)) (begins (places (c .before .before .before .before .before .before .before .before .before .before)) .pre .1 .0), (search needs, begins (places (c .before .before .before .before .before .before .before .before .before .before)) .pre .1 .1)))
+run-hours-requires c κs =
+    let applied = c .before .before .before .before .before .before .before .before .before .before in
+    let start = begins (places applied) in
+    let lent = as-lent (start .pre .0) (prepares (places applied) .prepare .ensures) in (
+      Making.run-known (start .pre .0) lent (start .pre .1 .0) refl (applied .applied .ensures),
+      (Making.begins (start .pre .0) lent (start .pre .1 .0), (search needs, start .pre .1 .1)),
+    )
 
 same-length : tie.Need-same-length
 same-length c = c .before .before .before .before .distributed-wh .given

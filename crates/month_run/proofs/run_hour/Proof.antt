@@ -18,7 +18,9 @@ settled-requires : tie.Need-settled-requires
 settled-requires c κs = c .before .before .before .before .before .before .before .pre .0
 
 put-hour-requires : tie.Need-put-hour-requires
-put-hour-requires c κs = hour-lent (begins (c .before .before .before .before) .pre .0) (begins (c .before .before .before .before) .pre .1 .0) (omega arith) (begins (c .before .before .before .before) .pre .1 .1)
+put-hour-requires c κs =
+    hour-lent (begins (c .before .before .before .before) .pre .0) (begins (c .before .before .before .before) .pre .1 .0) (omega arith)
+    (begins (c .before .before .before .before) .pre .1 .1)
 
 same-length : tie.Need-same-length
 same-length c = search needs
@@ -33,7 +35,11 @@ same-length-4 : tie.Need-same-length-4
 same-length-4 c = search needs
 
 returns-2 : tie.Need-returns-2
-returns-2 c = hour-on (begins (c .before .before .before .before .before .before .before .before .before .before) .pre .0) (begins (c .before .before .before .before .before .before .before .before .before .before) .pre .1 .0) (omega arith) (begins (c .before .before .before .before .before .before .before .before .before .before) .pre .1 .1) ((c .before .before .before .before .before .before .before .before .before .before) .settled .ensures) (c .before .before .before .before .before .put-hour .ensures)
+returns-2 c =
+    let put = c .before .before .before .before .before in
+    let settled = put .before .before .before .before .before in
+    let start = begins settled in
+    hour-on (start .pre .0) (start .pre .1 .0) (omega arith) (start .pre .1 .1) (settled .settled .ensures) (put .put-hour .ensures)
 
 pub run-hour-spec : {M : Type 1} → statement M
 run-hour-spec =

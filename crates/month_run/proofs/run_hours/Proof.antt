@@ -36,25 +36,53 @@ begin-requires : tie.Need-begin-requires Inv-loop μ-loop
 begin-requires c κs = search needs
 
 loop-holds : tie.Need-loop-holds Inv-loop μ-loop
-loop-holds c = rw (c .begin .ensures) (goes (c .before .before .before .before .before .before .before .pre .0) (c .before .before .before .before .before .before .before .pre .1 .0) (c .before .before .before .before .before .before .before .pre .1 .1 .0) (c .before .before .before .before .before .before .before .pre .1 .1 .1))
+loop-holds c =
+    let start = c .before .before .before .before .before .before .before in
+    rw (c .begin .ensures) (goes (start .pre .0) (start .pre .1 .0) (start .pre .1 .1 .0) (start .pre .1 .1 .1))
 
 step-requires : tie.Need-step-requires Inv-loop μ-loop
-step-requires c κs = (begins (c .before .before .before) .pre .0 .month, step-asked (begins (c .before .before .before) .pre .0) (begins (c .before .before .before) .pre .1 .1 .1 .inside) (c .before .before .before .loop .inv) (omega arith))
+step-requires c κs =
+    let loop = c .before .before .before in
+    let start = begins loop in
+    (start .pre .0 .month, step-asked (start .pre .0) (start .pre .1 .1 .1 .inside) (loop .loop .inv) (omega arith))
 
 mul-run-hour : tie.Need-mul-run-hour Inv-loop μ-loop
-mul-run-hour c = omega (arith, few-here (begins (loops (c .before .before)) .pre .0) (begins (loops (c .before .before)) .pre .1 .1 .1 .inside) (loops (c .before .before) .loop .inv) (omega arith))
+mul-run-hour c =
+    let loop = loops (c .before .before) in
+    let start = begins loop in
+    omega (arith, few-here (start .pre .0) (start .pre .1 .1 .1 .inside) (loop .loop .inv) (omega arith))
 
 shared-slice-read-run-hour : tie.Need-shared-slice-read-run-hour Inv-loop μ-loop
-shared-slice-read-run-hour c = residual-here (begins (loops (c .before .before .before)) .pre .0) (begins (loops (c .before .before .before)) .pre .1 .1 .1 .inside) (loops (c .before .before .before) .loop .inv) (omega arith)
+shared-slice-read-run-hour c =
+    residual-here (begins (loops (c .before .before .before)) .pre .0) (begins (loops (c .before .before .before)) .pre .1 .1 .1 .inside)
+    (loops (c .before .before .before) .loop .inv)
+    (omega arith)
 
 run-hour-requires : tie.Need-run-hour-requires Inv-loop μ-loop
-run-hour-requires c κs = (hour-asked (begins (loops (steps c)) .pre .0) (begins (loops (steps c)) .pre .1 .1 .1 .inside) (loops (steps c) .loop .inv) (omega arith) (steps c .step .ensures), (in-run (begins (loops (steps c)) .pre .0) (begins (loops (steps c)) .pre .1 .1 .1 .inside) (loops (steps c) .loop .inv) (omega arith), running-here (begins (loops (steps c)) .pre .0) (begins (loops (steps c)) .pre .1 .1 .1 .inside) (loops (steps c) .loop .inv) (omega arith)))
+run-hour-requires c κs =
+    let step = steps c in
+    let loop = loops step in
+    let start = begins loop in (
+      hour-asked (start .pre .0) (start .pre .1 .1 .1 .inside) (loop .loop .inv) (omega arith) (step .step .ensures),
+      (
+        in-run (start .pre .0) (start .pre .1 .1 .1 .inside) (loop .loop .inv) (omega arith),
+        running-here (start .pre .0) (start .pre .1 .1 .1 .inside) (loop .loop .inv) (omega arith),
+      ),
+    )
 
 loop-less : tie.Need-loop-less Inv-loop μ-loop
-loop-less c = omega (arith, one-on (begins (loops (steps (runs c .before))) .pre .0) (begins (loops (steps (runs c .before))) .pre .1 .1 .1 .inside) (loops (steps (runs c .before)) .loop .inv) (omega arith) (steps (runs c .before) .step .ensures))
+loop-less c =
+    let step = steps (runs c .before) in
+    let loop = loops step in
+    let start = begins loop in
+    omega (arith, one-on (start .pre .0) (start .pre .1 .1 .1 .inside) (loop .loop .inv) (omega arith) (step .step .ensures))
 
 loop-again : tie.Need-loop-again Inv-loop μ-loop
-loop-again c = goes-on (begins (loops (steps (runs c .before))) .pre .0) (begins (loops (steps (runs c .before))) .pre .1 .1 .1 .inside) (loops (steps (runs c .before)) .loop .inv) (omega arith) (steps (runs c .before) .step .ensures) (runs c .run-hour .ensures)
+loop-again c =
+    let step = steps (runs c .before) in
+    let loop = loops step in
+    let start = begins loop in
+    goes-on (start .pre .0) (start .pre .1 .1 .1 .inside) (loop .loop .inv) (omega arith) (step .step .ensures) (runs c .run-hour .ensures)
 
 same-length : tie.Need-same-length Inv-loop μ-loop
 same-length c = c .before .before .loop .inv .walked .holds .size ∙ sym (begins (c .before .before) .pre .1 .1 .0)
