@@ -45,7 +45,12 @@ module _ (file : List ℕ) (s : Sections) (ok : Accepted file s) where
     unfolding hoursVerdict andThen
     fixed-refused {x} {place} e refixed =
         let v : inTurn (H m) (hourVerdict (m .fixed)) ≡ refused (named x) place = sym fixed-verdict ∙ ap judgedVerdict e in
-        record { verdict = ap judgedVerdict e ∙ ap (λ (w : Verdict). andThen w (inTurn (length (m .refixed)) (hourVerdict (m .refixed)))) (sym v); fixed-is = λ a. absurd (not-accepted e a); refixed-is = λ a. absurd (not-accepted e a); estimated = λ n f. absurd (no-figures e f) }
+        record {
+          verdict = ap judgedVerdict e ∙ ap (λ (w : Verdict). andThen w (inTurn (length (m .refixed)) (hourVerdict (m .refixed)))) (sym v);
+          fixed-is = λ a. absurd (not-accepted e a);
+          refixed-is = λ a. absurd (not-accepted e a);
+          estimated = λ n f. absurd (no-figures e f);
+        }
 
     module _ {a : ℕ} (read : by-fixed ≡ Figures a) {by-refixed : Judged} {refixed : List ℕ} (second : SeriesIs (seriesOf m true) by-refixed refixed) where
       -- the fixed hours are passed, so the refixed ones decide
@@ -90,7 +95,9 @@ module _ (file : List ℕ) (s : Sections) (ok : Accepted file s) where
         pub refixed-applied : 0 < s .refixed → BothKnown m (Figures b) fixed refixed
         unfolding estimatedHours seriesOf appliedSeries
         refixed-applied some =
-            let all : length (m .refixed) ≡ H m = ⊎-elim (λ (z : length (m .refixed) ≡ 0). absurd (omega (arith, refixed-are file s ok))) (λ (h : length (m .refixed) ≡ H m). h) (month-whole file s ok .none-or-all-refixed) in
+            let all : length (m .refixed) ≡ H m =
+            ⊎-elim (λ (z : length (m .refixed) ≡ 0). absurd (omega (arith, refixed-are file s ok))) (λ (h : length (m .refixed) ≡ H m). h)
+            (month-whole file s ok .none-or-all-refixed) in
             known b
             (second .estimated b read-too ∙ ap (λ (n : ℕ). count n (isEstimated (m .refixed))) all
             ∙ ap (λ (l : List Flows). count (H m) (isEstimated l)) (there (m .refixed) (omega (arith, refixed-are file s ok))))

@@ -90,7 +90,11 @@ module _ {file : List ℕ} {s : Sections} {fixed : List ℕ} {w lent beginnings 
     unfolding curveReadingsVerdict andThen
     curve-refused {x} {place} e begun =
         let v : inTurn (H m) (curveVerdict m) ≡ refused (named x) place = sym curve-judged ∙ sym is ∙ ap said e in
-        record { verdict = ap said e ∙ ap (λ (u : Verdict). andThen u (inTurn (length (m .readings)) (readingVerdict m))) (sym v); curve-is = λ a. absurd (refused-not-accepted (sym (ap said e) ∙ a)); beginnings-are = λ a. absurd (refused-not-accepted (sym (ap said e) ∙ a)) }
+        record {
+          verdict = ap said e ∙ ap (λ (u : Verdict). andThen u (inTurn (length (m .readings)) (readingVerdict m))) (sym v);
+          curve-is = λ a. absurd (refused-not-accepted (sym (ap said e) ∙ a));
+          beginnings-are = λ a. absurd (refused-not-accepted (sym (ap said e) ∙ a));
+        }
 
     module _ (e : fit ≡ Done) where
       pub numbers-are : numbers ≡ figures (H m) (curve m)
@@ -118,4 +122,8 @@ module _ {file : List ℕ} {s : Sections} {fixed : List ℕ} {w lent beginnings 
         unfolding curveReadingsVerdict andThen
         curve-known r told =
             let v : inTurn (H m) (curveVerdict m) ≡ accepted = sym curve-judged ∙ sym is ∙ ap said e in
-            record { verdict = told ∙ ap (λ (u : Verdict). andThen u (inTurn (length (m .readings)) (readingVerdict m))) (sym v); curve-is = λ a. numbers-are; beginnings-are = λ a. begun-are }
+            record {
+              verdict = told ∙ ap (λ (u : Verdict). andThen u (inTurn (length (m .readings)) (readingVerdict m))) (sym v);
+              curve-is = λ a. numbers-are;
+              beginnings-are = λ a. begun-are;
+            }

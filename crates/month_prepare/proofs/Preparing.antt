@@ -24,13 +24,23 @@ pub record Stands (n places : ℕ) (part whole : List ℕ) : Type 0 where
   pub first : take n whole ≡ part
   pub size : length whole ≡ places
 
-pub stands : (n : ℕ) (lent part : List ℕ) {places : ℕ} → length lent ≡ places → n ≤ places → length part ≡ length (midOf 0 (n - 0) lent) → Stands n places part (putMid 0 (n - 0) lent part)
+pub stands :
+    (n : ℕ) (lent part : List ℕ) {places : ℕ}
+    → length lent ≡ places
+    → n ≤ places
+    → length part ≡ length (midOf 0 (n - 0) lent)
+    → Stands n places part (putMid 0 (n - 0) lent part)
 stands n lent part {places} size enough same =
     let many : length part ≡ n = same ∙ mid-len 0 n lent (omega (arith, size)) ∙ sub-zero n in
     record { first = take-at part (postOf 0 (n - 0) lent) n many; size = same-len-mid 0 (n - 0) lent part same ∙ size }
 
 -- and is lent again
-pub lent-again : (n : ℕ) (lent part : List ℕ) {places : ℕ} → length lent ≡ places → n ≤ places → length part ≡ length (midOf 0 (n - 0) lent) → take (n - 0) (putMid 0 (n - 0) lent part) ≡ part
+pub lent-again :
+    (n : ℕ) (lent part : List ℕ) {places : ℕ}
+    → length lent ≡ places
+    → n ≤ places
+    → length part ≡ length (midOf 0 (n - 0) lent)
+    → take (n - 0) (putMid 0 (n - 0) lent part) ≡ part
 lent-again n lent part size enough same =
     ap (λ (k : ℕ). take k (putMid 0 (n - 0) lent part)) (sub-zero n) ∙ stands n lent part size enough same .first
 
@@ -59,7 +69,13 @@ module _ (file : List ℕ) (s : Sections) (ok : Accepted file s) where
       → Stands (s .heading .hours + 1) (suc mostHours) b begins
       → PreparedIs file s (record { made = made; «fixed_wh» = fixed; «refixed_wh» = refixed; curve = curveNumbers; beginnings = begins })
   prepared is f r c b =
-      record { fixed-places = f .size; refixed-places = r .size; curve-places = c .size; beginnings-places = b .size; is = rw (f .first, r .first, c .first, b .first) is }
+      record {
+        fixed-places = f .size;
+        refixed-places = r .size;
+        curve-places = c .size;
+        beginnings-places = b .size;
+        is = rw (f .first, r .first, c .first, b .first) is;
+      }
 
 -- the parts of a month's arrays that its hours are walked with
 module _ {file : List ℕ} {s : Sections} (ok : Accepted file s) {r : Prepared} (p : PreparedIs file s r) where
@@ -75,5 +91,8 @@ module _ {file : List ℕ} {s : Sections} (ok : Accepted file s) {r : Prepared} 
   pub beginnings-enough : s .heading .hours + 1 ≤ length (r .beginnings)
   beginnings-enough = omega (arith, p .beginnings-places, few-hours file s ok)
 
-  pub as-lent : MadeIs (monthOf file) (r .made) (take (s .heading .hours - 0) (r .«fixed_wh»)) (take (s .refixed - 0) (r .«refixed_wh»)) (take (s .heading .hours - 0) (r .curve)) (take (s .heading .hours + 1 - 0) (r .beginnings))
+  pub as-lent :
+      MadeIs (monthOf file) (r .made)
+      (take (s .heading .hours - 0) (r .«fixed_wh»)) (take (s .refixed - 0) (r .«refixed_wh»))
+      (take (s .heading .hours - 0) (r .curve)) (take (s .heading .hours + 1 - 0) (r .beginnings))
   as-lent = rw (sub-zero (s .heading .hours), sub-zero (s .refixed), sub-zero (s .heading .hours + 1)) (p .is)

@@ -29,7 +29,10 @@ use Rattle.rules.proofs.Sums.{sum-cong}
 use Rattle.rules.proofs.Whole.{every-at, PartyRight, within-is}
 
 -- the shares that were read into the first of these places, read from there again
-module _ (file : List ℕ) (s : Sections) (ok : Accepted file s) (lent part : List ℕ) (size : length lent ≡ mostParties) (same : length part ≡ length (midOf 0 (s .heading .parties - 0) lent)) (are : part ≡ figures (P (monthOf file)) (shareOf (monthOf file))) where
+module _
+    (file : List ℕ) (s : Sections) (ok : Accepted file s) (lent part : List ℕ) (size : length lent ≡ mostParties)
+    (same : length part ≡ length (midOf 0 (s .heading .parties - 0) lent))
+    (are : part ≡ figures (P (monthOf file)) (shareOf (monthOf file))) where
   abbrev places : List ℕ
   places = putMid 0 (s .heading .parties - 0) lent part
 

@@ -82,7 +82,16 @@ pub record MakingAsked (file : List ℕ) (s : Sections) (fixed refixed curveNumb
 -- the carries of no party, where a month is refused before there is a W
 abbrev pub nothingCarried : Carries
 nothingCarried =
-    record { parties = 0; w = 0; «sum_wh» = 0; left = 0; share = replicate mostParties 0; remainder = replicate mostParties 0; extra = replicate mostParties 0; figures = replicate mostParties (pos 0) }
+    record {
+      parties = 0;
+      w = 0;
+      «sum_wh» = 0;
+      left = 0;
+      share = replicate mostParties 0;
+      remainder = replicate mostParties 0;
+      extra = replicate mostParties 0;
+      figures = replicate mostParties (pos 0);
+    }
 
 -- WHAT IS MADE of a month that none of these checks refuses
 pub record Making (m : MonthFile) (r : Made) (fixed refixed curveNumbers beginnings : List ℕ) : Type 0 where
@@ -105,4 +114,7 @@ pub record PreparedIs (file : List ℕ) (s : Sections) (r : Prepared) : Type 0 w
   pub refixed-places : length (r .«refixed_wh») ≡ mostHours
   pub curve-places : length (r .curve) ≡ mostHours
   pub beginnings-places : length (r .beginnings) ≡ suc mostHours
-  pub is : MadeIs (monthOf file) (r .made) (take (s .heading .hours) (r .«fixed_wh»)) (take (s .refixed) (r .«refixed_wh»)) (take (s .heading .hours) (r .curve)) (take (s .heading .hours + 1) (r .beginnings))
+  pub is :
+      MadeIs (monthOf file) (r .made)
+      (take (s .heading .hours) (r .«fixed_wh»)) (take (s .refixed) (r .«refixed_wh»))
+      (take (s .heading .hours) (r .curve)) (take (s .heading .hours + 1) (r .beginnings))

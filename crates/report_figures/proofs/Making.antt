@@ -34,7 +34,10 @@ unfolding H
 last-hour m j = omega (arith, heading-right m j .hours .0)
 
 module _ {m : MonthFile} {made : Made} {fixed refixed numbers begun : List ℕ} (is : MadeIs m made fixed refixed numbers begun) {d : List ℤ} {p : List ℕ} where
-  pub not-made : {x : Refusal} {place : ℕ} → made .answer ≡ Refused x place → (estimated w : ℕ) (distances : Distances) → HourlyIs m (record { answer = made .answer; estimated = estimated; w = w; distances = distances }) fixed refixed numbers d p
+  pub not-made :
+      {x : Refusal} {place : ℕ}
+      → made .answer ≡ Refused x place → (estimated w : ℕ) (distances : Distances)
+      → HourlyIs m (record { answer = made .answer; estimated = estimated; w = w; distances = distances }) fixed refixed numbers d p
   not-made e estimated w distances =
       record { verdict = refused-before is e; made = λ a. absurd (refused-not-accepted (sym (ap said e) ∙ a)) }
 
@@ -46,13 +49,31 @@ module _ {m : MonthFile} {made : Made} {fixed refixed numbers begun : List ℕ} 
           verdict = passed .verdict ∙ sym (hours-decide is done);
           made = λ a.
               let g = passed .after a in
-              record { judged = before .judged; estimated = before .estimated; w-is = w-is m (before .judged) (carried-start m (before .started)); fixed-is = before .fixed-is; refixed-is = before .refixed-is; curve-is = before .curve-is; distributed-is = fill-end (g .distributed) (le-refl (H m)); periodised-is = fill-end (g .periodised) (le-refl (H m)); in-limit = λ t b. periodised-at-most m t (in-turn-exactly (H m) (periodisedVerdict m) .0 (sym (passed .verdict) ∙ a) t b); smallest = g .measured .smallest (H m - 1) (last-hour m (before .judged)); largest = g .measured .largest (H m - 1) (last-hour m (before .judged)) };
+              record {
+                judged = before .judged;
+                estimated = before .estimated;
+                w-is = w-is m (before .judged) (carried-start m (before .started));
+                fixed-is = before .fixed-is;
+                refixed-is = before .refixed-is;
+                curve-is = before .curve-is;
+                distributed-is = fill-end (g .distributed) (le-refl (H m));
+                periodised-is = fill-end (g .periodised) (le-refl (H m));
+                in-limit = λ t b. periodised-at-most m t (in-turn-exactly (H m) (periodisedVerdict m) .0 (sym (passed .verdict) ∙ a) t b);
+                smallest = g .measured .smallest (H m - 1) (last-hour m (before .judged));
+                largest = g .measured .largest (H m - 1) (last-hour m (before .judged));
+              };
         }
 
 -- the places lent for the hours' sums
-pub sums-lent : {file : List ℕ} {s : Sections} {fixed refixed numbers distributed periodised : ℕ} → HourlyAsked file s fixed refixed numbers distributed periodised → SumsLent (monthOf file) distributed periodised
+pub sums-lent :
+    {file : List ℕ} {s : Sections} {fixed refixed numbers distributed periodised : ℕ}
+    → HourlyAsked file s fixed refixed numbers distributed periodised
+    → SumsLent (monthOf file) distributed periodised
 sums-lent {file} {s} asked =
-    record { distributed-size = asked .distributed-size ∙ hours-are file s (asked .accepted); periodised-size = asked .periodised-size ∙ hours-are file s (asked .accepted) }
+    record {
+      distributed-size = asked .distributed-size ∙ hours-are file s (asked .accepted);
+      periodised-size = asked .periodised-size ∙ hours-are file s (asked .accepted);
+    }
 
 -- the beginnings that were made, lent again
 module _ {m : MonthFile} {made : Made} {f r c part : List ℕ} (is : MadeIs m made f r c part)

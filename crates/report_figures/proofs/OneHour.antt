@@ -100,11 +100,18 @@ module _ (m : MonthFile) where
 
     pub measured-next : Measured m (t + 1) r
     measured-next =
-        record { smallest = λ last e. let same : t ≡ last = omega (arith, e) in subst (λ (u : ℕ). Filled (pos 0) (smallestDistance m u) (P m) (r .smallest)) same least; largest = λ last e. let same : t ≡ last = omega (arith, e) in subst (λ (u : ℕ). Filled (pos 0) (largestDistance m u) (P m) (r .largest)) same most }
+        record {
+          smallest =
+              λ last e.
+              let same : t ≡ last = omega (arith, e) in subst (λ (u : ℕ). Filled (pos 0) (smallestDistance m u) (P m) (r .smallest)) same least;
+          largest =
+              λ last e. let same : t ≡ last = omega (arith, e) in subst (λ (u : ℕ). Filled (pos 0) (largestDistance m u) (P m) (r .largest)) same most;
+        }
 
 -- ONE HOUR OF THE MONTH: what a walk that has come past it tells
 module _ {file : List ℕ} {s : Sections} {applied curveNumbers beginnings : List ℕ} (known : MonthKnown file s applied curveNumbers beginnings)
-    {t : ℕ} (b : t < H (monthOf file)) {w : Walk} {window : List ℕ} (on : HourOn (monthOf file) t w window) {x : Distances} {d : List ℤ} {p : List ℕ} (g : PassedTo (monthOf file) t x d p) where
+    {t : ℕ} (b : t < H (monthOf file)) {w : Walk} {window : List ℕ} (on : HourOn (monthOf file) t w window)
+    {x : Distances} {d : List ℤ} {p : List ℕ} (g : PassedTo (monthOf file) t x d p) where
   abbrev m : MonthFile
   m = monthOf file
 
@@ -131,7 +138,15 @@ module _ {file : List ℕ} {s : Sections} {applied curveNumbers beginnings : Lis
       let column-there : Column window (w .held .hours) (t - w .held .start) (w .carries .parties) = rw (carried .parties) (h .asked) in
       let light : EachInHour addable window (w .held .hours) (t - w .held .start) (w .carries .parties) = rw (carried .parties) each-light in
       let there : t < length d = omega (arith, g .distributed .size, h .hour) in
-      record { good = carried .good; begun = on .hour .begun; summable = figures-summable; column-there = column-there; light = light; distributed-there = there; periodised-there = omega (arith, g .periodised .size, h .hour) }
+      record {
+        good = carried .good;
+        begun = on .hour .begun;
+        summable = figures-summable;
+        column-there = column-there;
+        light = light;
+        distributed-there = there;
+        periodised-there = omega (arith, g .periodised .size, h .hour);
+      }
 
   all-distributed : sumℤ (w .carries .parties) (atℤ (w .carries .figures)) ≡ allDistributed m t
   unfolding allDistributed

@@ -41,12 +41,23 @@ module _ {file : List ℕ} {s : Sections} {applied curveNumbers beginnings : Lis
   all-is = hours-are file s (known .windows .accepted)
 
   -- before the first hour
-  pub goes : {c : Carries} → Beginning file c → {window : List ℕ} → length window ≡ windowPlaces → {d : List ℤ} {p : List ℕ} → SumsLent m (length d) (length p) → Going m window (begun c) noDistances d p
+  pub goes :
+      {c : Carries}
+      → Beginning file c
+      → {window : List ℕ}
+      → length window ≡ windowPlaces
+      → {d : List ℤ} {p : List ℕ}
+      → SumsLent m (length d) (length p)
+      → Going m window (begun c) noDistances d p
   goes begin size {d} {p} lent = record { walked = walk-begins begin size; passed = none-passed }
     where
       none-passed : PassedTo m 0 noDistances d p
       none-passed =
-          record { measured = none-yet; distributed = fill-start (allDistributed m) (lent .distributed-size); periodised = fill-start (allPeriodised m) (lent .periodised-size) }
+          record {
+            measured = none-yet;
+            distributed = fill-start (allDistributed m) (lent .distributed-size);
+            periodised = fill-start (allPeriodised m) (lent .periodised-size);
+          }
 
   -- an hour is left
   module _ {window : List ℕ} {w : Walk} {x : Distances} {d : List ℤ} {p : List ℕ} (g : Going m window w x d p) (b : w .t < s .heading .hours) where
@@ -58,7 +69,10 @@ module _ {file : List ℕ} {s : Sections} {applied curveNumbers beginnings : Lis
 
     module _ {r : Walk} {window′ : List ℕ} (is : SteppedIs m (w .t) r window′) where
       -- it is refused, so the month is
-      pub stops : {v : Refusal} {place : ℕ} → r .answer ≡ Refused v place → (y : Distances) (e : List ℤ) (q : List ℕ) → MonthPassed m (record { answer = r .answer; distances = y }) e q
+      pub stops :
+          {v : Refusal} {place : ℕ}
+          → r .answer ≡ Refused v place → (y : Distances) (e : List ℤ) (q : List ℕ)
+          → MonthPassed m (record { answer = r .answer; distances = y }) e q
       stops {v} {place} e y o q =
           record { verdict = is .stopped v place e; after = λ a. absurd (refused-not-accepted (sym (ap said e) ∙ a)) }
 
@@ -70,7 +84,11 @@ module _ {file : List ℕ} {s : Sections} {applied curveNumbers beginnings : Lis
         goes-on one = record { walked = is .on done .walked; passed = OneHour.one-hour-on known in-month (is .on done) (g .passed) one }
 
   -- none is left
-  pub ends : {window : List ℕ} {w : Walk} {x : Distances} {d : List ℤ} {p : List ℕ} → Going m window w x d p → s .heading .hours ≤ w .t → MonthPassed m (record { answer = Done; distances = x }) d p
+  pub ends :
+      {window : List ℕ} {w : Walk} {x : Distances} {d : List ℤ} {p : List ℕ}
+      → Going m window w x d p
+      → s .heading .hours ≤ w .t
+      → MonthPassed m (record { answer = Done; distances = x }) d p
   ends {window} {w} {x} {d} {p} g b =
       let e : w .t ≡ H m = omega (arith, walk-inside (g .walked), all-is) in
       let verdict = sym (ap (λ (n : ℕ). inTurn n (periodisedVerdict m)) (sym e) ∙ walk-passed (g .walked)) in

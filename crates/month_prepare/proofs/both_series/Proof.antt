@@ -18,7 +18,10 @@ same-length : tie.Need-same-length
 same-length c = search needs
 
 returns : tie.Need-returns
-returns c = fixed-refused _ _ (c .before .before .before .before .before .before .before .before .before .pre .accepted) (c .before .before .before .before .hours .ensures) (c .enum-told .given .1) _
+returns c =
+    let after-hours = c .before .before .before .before in
+    let start = after-hours .before .before .before .before .before in
+    fixed-refused _ _ (start .pre .accepted) (after-hours .hours .ensures) (c .enum-told .given .1) _
 
 hours-requires-2 : tie.Need-hours-requires-2
 hours-requires-2 c κs = search needs
@@ -36,7 +39,13 @@ same-length-3 : tie.Need-same-length-3
 same-length-3 c = search needs
 
 returns-2 : tie.Need-returns-2
-returns-2 c = refixed-refused _ _ (c .before .before .before .before .before .before .before .before .before .before .before .before .before .before .before .before .pre .accepted) (c .before .before .before .before .before .before .before .before .before .before .before .hours .ensures) (c .before .before .before .before .before .before .before .by-fixed .given .1) (c .before .before .before .before .hours2 .ensures) (c .enum-told2 .given .1)
+returns-2 c =
+    let after-hours2 = c .before .before .before .before in
+    let after-by-fixed = after-hours2 .before .before .before in
+    let after-hours = after-by-fixed .before .before .before .before in
+    let start = after-hours .before .before .before .before .before in
+    refixed-refused _ _ (start .pre .accepted) (after-hours .hours .ensures) (after-by-fixed .by-fixed .given .1) (after-hours2 .hours2 .ensures)
+    (c .enum-told2 .given .1)
 
 same-length-4 : tie.Need-same-length-4
 same-length-4 c = search needs
@@ -45,7 +54,14 @@ same-length-5 : tie.Need-same-length-5
 same-length-5 c = search needs
 
 returns-3 : tie.Need-returns-3
-returns-3 c = fixed-applied _ _ (c .before .before .before .before .before .before .before .before .before .before .before .before .before .before .before .before .before .before .before .pre .accepted) (c .before .before .before .before .before .before .before .before .before .before .before .before .before .before .hours .ensures) (c .before .before .before .before .before .before .before .before .before .before .by-fixed .given .1) (c .before .before .before .before .before .before .before .hours2 .ensures) (c .before .before .before .by-refixed .given .1) (c .if1 .taken)
+returns-3 c =
+    let after-by-refixed = c .before .before .before in
+    let after-hours2 = after-by-refixed .before .before .before .before in
+    let after-by-fixed = after-hours2 .before .before .before in
+    let after-hours = after-by-fixed .before .before .before .before in
+    let start = after-hours .before .before .before .before .before in
+    fixed-applied _ _ (start .pre .accepted) (after-hours .hours .ensures) (after-by-fixed .by-fixed .given .1) (after-hours2 .hours2 .ensures)
+    (after-by-refixed .by-refixed .given .1) (c .if1 .taken)
 
 same-length-6 : tie.Need-same-length-6
 same-length-6 c = search needs
@@ -54,7 +70,14 @@ same-length-7 : tie.Need-same-length-7
 same-length-7 c = search needs
 
 returns-4 : tie.Need-returns-4
-returns-4 c = refixed-applied _ _ (c .before .before .before .before .before .before .before .before .before .before .before .before .before .before .before .before .before .before .before .pre .accepted) (c .before .before .before .before .before .before .before .before .before .before .before .before .before .before .hours .ensures) (c .before .before .before .before .before .before .before .before .before .before .by-fixed .given .1) (c .before .before .before .before .before .before .before .hours2 .ensures) (c .before .before .before .by-refixed .given .1) (pos-of-ne-zero (c .if1 .left))
+returns-4 c =
+    let after-by-refixed = c .before .before .before in
+    let after-hours2 = after-by-refixed .before .before .before .before in
+    let after-by-fixed = after-hours2 .before .before .before in
+    let after-hours = after-by-fixed .before .before .before .before in
+    let start = after-hours .before .before .before .before .before in
+    refixed-applied _ _ (start .pre .accepted) (after-hours .hours .ensures) (after-by-fixed .by-fixed .given .1) (after-hours2 .hours2 .ensures)
+    (after-by-refixed .by-refixed .given .1) (pos-of-ne-zero (c .if1 .left))
 
 pub both-series-spec : {M : Type 1} → statement M
 both-series-spec =

@@ -20,13 +20,36 @@ same-length : tie.Need-same-length
 same-length c = search needs
 
 returns : tie.Need-returns
-returns c = curve-refused (c .before .before .before .before .before .before .before .before .before .before .pre) (c .before .before .before .before .curve .ensures .0) _ (c .before .before .before .before .curve .ensures .1) (c .enum-told2 .given .1) _
+returns c =
+    let after-curve = c .before .before .before .before in
+    let start = after-curve .before .before .before .before .before .before in
+    curve-refused (start .pre) (after-curve .curve .ensures .0) _ (after-curve .curve .ensures .1) (c .enum-told2 .given .1) _
 
 beginnings-requires : tie.Need-beginnings-requires
-beginnings-requires c κs = (c .before .before .before .before .before .before .before .before .before .before .before .before .pre .beginnings-size ∙ ap suc (sym (numbers-many (c .before .before .before .before .before .before .before .before .before .before .before .before .pre) (c .before .before .before .before .before .before .curve .ensures .0) _ (c .before .before .before .before .before .before .curve .ensures .1) (c .before .before .enum-told .given .1))), omega (arith, few (c .before .before .before .before .before .before .before .before .before .before .before .before .pre), numbers-many (c .before .before .before .before .before .before .before .before .before .before .before .before .pre) (c .before .before .before .before .before .before .curve .ensures .0) _ (c .before .before .before .before .before .before .curve .ensures .1) (c .before .before .enum-told .given .1)))
+beginnings-requires c κs =
+    let after-enum-told = c .before .before in
+    let after-curve = after-enum-told .before .before .before .before in
+    let start = after-curve .before .before .before .before .before .before in (
+      start .pre .beginnings-size
+          ∙ ap suc
+          (sym (numbers-many (start .pre) (after-curve .curve .ensures .0) _ (after-curve .curve .ensures .1) (after-enum-told .enum-told .given .1))),
+      omega (
+        arith,
+        few (start .pre),
+        numbers-many (start .pre) (after-curve .curve .ensures .0) _ (after-curve .curve .ensures .1) (after-enum-told .enum-told .given .1),
+      ),
+    )
 
 followed-requires : tie.Need-followed-requires
-followed-requires c κs = (c .before .before .before .before .before .before .before .before .before .before .before .before .before .before .before .before .pre .accepted, begun-are (c .before .before .before .before .before .before .before .before .before .before .before .before .before .before .before .before .pre) (c .before .before .before .before .before .before .before .before .before .before .curve .ensures .0) _ (c .before .before .before .before .before .before .before .before .before .before .curve .ensures .1) (c .before .before .before .before .before .before .enum-told .given .1) (c .before .before .before .beginnings .ensures))
+followed-requires c κs =
+    let after-beginnings = c .before .before .before in
+    let after-enum-told = after-beginnings .before .before .before in
+    let after-curve = after-enum-told .before .before .before .before in
+    let start = after-curve .before .before .before .before .before .before in (
+      start .pre .accepted,
+      begun-are (start .pre) (after-curve .curve .ensures .0) _ (after-curve .curve .ensures .1) (after-enum-told .enum-told .given .1)
+          (after-beginnings .beginnings .ensures),
+    )
 
 same-length-2 : tie.Need-same-length-2
 same-length-2 c = search needs
@@ -35,7 +58,13 @@ same-length-3 : tie.Need-same-length-3
 same-length-3 c = search needs
 
 returns-2 : tie.Need-returns-2
-returns-2 c = curve-known (c .before .before .before .before .before .before .before .before .before .before .before .before .before .before .before .before .before .pre) (c .before .before .before .before .before .before .before .before .before .before .before .curve .ensures .0) _ (c .before .before .before .before .before .before .before .before .before .before .before .curve .ensures .1) (c .before .before .before .before .before .before .before .enum-told .given .1) (c .before .before .before .before .beginnings .ensures) (c .followed .result) (c .followed .ensures)
+returns-2 c =
+    let after-beginnings = c .before .before .before .before in
+    let after-enum-told = after-beginnings .before .before .before in
+    let after-curve = after-enum-told .before .before .before .before in
+    let start = after-curve .before .before .before .before .before .before in
+    curve-known (start .pre) (after-curve .curve .ensures .0) _ (after-curve .curve .ensures .1) (after-enum-told .enum-told .given .1)
+    (after-beginnings .beginnings .ensures) (c .followed .result) (c .followed .ensures)
 
 pub curve-and-readings-spec : {M : Type 1} → statement M
 curve-and-readings-spec =

@@ -37,7 +37,9 @@ enum-told-2 c = search needs
 
 -- src/lib.rt:145:9
 returns : tie.Need-returns
-returns c = w-refuses _ _ (begins (c .before .before .before) .pre .accepted) (c .before .before .before .weigh .ensures) (c .enum-told2 .given .1) _ _ _ _ _
+returns c =
+    let weighed = c .before .before .before in
+    w-refuses _ _ (begins weighed .pre .accepted) (weighed .weigh .ensures) (c .enum-told2 .given .1) _ _ _ _ _
 
 -- src/lib.rt:151:9
 both-series-requires : tie.Need-both-series-requires
@@ -53,7 +55,15 @@ enum-known-judged-2 c = search needs
 
 -- src/lib.rt:160:17
 curve-and-readings-requires : tie.Need-curve-and-readings-requires
-curve-and-readings-requires c κs = curve-asked _ _ (begins (weighs (judges (curves c)) .before .before .before) .pre .accepted) (weighs (judges (curves c)) .before .before .before .weigh .ensures) (weighs (judges (curves c)) .enum-told .given .1) (judges (curves c) .both-series .ensures) (curves c .before .judged2 .given .1) (begins (weighs (judges (curves c)) .before .before .before) .pre .curve-size) (begins (weighs (judges (curves c)) .before .before .before) .pre .beginnings-size)
+curve-and-readings-requires c κs =
+    let told = curves c in
+    let series = judges told in
+    let right = weighs series in
+    let weighed = right .before .before .before in
+    let start = begins weighed in
+    curve-asked _ _ (start .pre .accepted) (weighed .weigh .ensures) (right .enum-told .given .1)
+    (series .both-series .ensures) (told .before .judged2 .given .1)
+    (start .pre .curve-size) (start .pre .beginnings-size)
 
 -- src/lib.rt:130:1
 same-length : tie.Need-same-length
@@ -65,7 +75,12 @@ same-length-2 c = search needs
 
 -- src/lib.rt:130:1
 returns-2 : tie.Need-returns-2
-returns-2 c = series-refuse _ _ (begins (weighs (refuses c) .before .before .before) .pre .accepted) (weighs (refuses c) .before .before .before .weigh .ensures) (weighs (refuses c) .enum-told .given .1) (refuses c .both-series .ensures) (c .before .judged .given .1) _ _ _
+returns-2 c =
+    let series = refuses c in
+    let right = weighs series in
+    let weighed = right .before .before .before in
+    series-refuse _ _ (begins weighed .pre .accepted) (weighed .weigh .ensures) (right .enum-told .given .1)
+    (series .both-series .ensures) (c .before .judged .given .1) _ _ _
 
 -- src/lib.rt:130:1
 same-length-3 : tie.Need-same-length-3
@@ -85,7 +100,14 @@ same-length-6 c = search needs
 
 -- src/lib.rt:130:1
 returns-3 : tie.Need-returns-3
-returns-3 c = all-made _ _ (begins (weighs (judges (curves (c .before .before .before .before .before))) .before .before .before) .pre .accepted) (weighs (judges (curves (c .before .before .before .before .before))) .before .before .before .weigh .ensures) (weighs (judges (curves (c .before .before .before .before .before))) .enum-told .given .1) (judges (curves (c .before .before .before .before .before)) .both-series .ensures) (curves (c .before .before .before .before .before) .before .judged2 .given .1) _ (c .before .before .before .before .curve-and-readings .ensures)
+returns-3 c =
+    let made = c .before .before .before .before in
+    let told = curves (made .before) in
+    let series = judges told in
+    let right = weighs series in
+    let weighed = right .before .before .before in
+    all-made _ _ (begins weighed .pre .accepted) (weighed .weigh .ensures) (right .enum-told .given .1)
+    (series .both-series .ensures) (told .before .judged2 .given .1) _ (made .curve-and-readings .ensures)
 
 pub make-spec : {M : Type 1} → statement M
 make-spec =

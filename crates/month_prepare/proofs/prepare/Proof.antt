@@ -90,11 +90,28 @@ part-beginnings-end c = omega (arith, c .before .before .before .beginning-place
 
 -- src/lib.rt:181:9
 make-requires : tie.Need-make-requires
-make-requires c κs = record { accepted = begins (places c) .pre; fixed-size = search needs; refixed-size = search needs; curve-size = search needs; beginnings-size = search needs }
+make-requires c κs =
+    record {
+      accepted = begins (places c) .pre;
+      fixed-size = search needs;
+      refixed-size = search needs;
+      curve-size = search needs;
+      beginnings-size = search needs;
+    }
 
 -- src/lib.rt:171:1
 returns : tie.Need-returns
-returns c = prepared _ _ (begins (places (c .before .before .before .before .before)) .pre) (c .before .before .before .before .make .ensures) (stands _ _ _ ((places (c .before .before .before .before .before)) .before .before .before .hour-places .ensures) (few-hours _ _ (begins (places (c .before .before .before .before .before)) .pre)) (c .before .before .before .fixed-wh2 .given)) (stands _ _ _ ((places (c .before .before .before .before .before)) .before .before .hour-places2 .ensures) (few-refixed _ _ (begins (places (c .before .before .before .before .before)) .pre)) (c .before .before .refixed-wh2 .given)) (stands _ _ _ ((places (c .before .before .before .before .before)) .before .hour-places3 .ensures) (few-hours _ _ (begins (places (c .before .before .before .before .before)) .pre)) (c .before .curve2 .given)) (stands _ _ _ ((places (c .before .before .before .before .before)) .beginning-places .ensures) (omega (arith, few-hours _ _ (begins (places (c .before .before .before .before .before)) .pre))) (c .beginnings2 .given))
+returns c =
+    let after-refixed-wh2 = c .before .before in
+    let after-fixed-wh2 = after-refixed-wh2 .before in
+    let after-make = after-fixed-wh2 .before in
+    let lent = places (after-make .before) in
+    let start = begins lent in
+    prepared _ _ (start .pre) (after-make .make .ensures)
+    (stands _ _ _ (lent .before .before .before .hour-places .ensures) (few-hours _ _ (start .pre)) (after-fixed-wh2 .fixed-wh2 .given))
+    (stands _ _ _ (lent .before .before .hour-places2 .ensures) (few-refixed _ _ (start .pre)) (after-refixed-wh2 .refixed-wh2 .given))
+    (stands _ _ _ (lent .before .hour-places3 .ensures) (few-hours _ _ (start .pre)) (c .before .curve2 .given))
+    (stands _ _ _ (lent .beginning-places .ensures) (omega (arith, few-hours _ _ (start .pre))) (c .beginnings2 .given))
 
 pub prepare-spec : {M : Type 1} → statement M
 prepare-spec =

@@ -55,11 +55,20 @@ part-w-in-range-start c = search needs
 
 -- src/lib.rt:81:40
 part-w-in-range-end : tie.Need-part-w-in-range-end
-part-w-in-range-end c = places-enough _ _ (begins (c .before .before) .pre) _ _ (lends (c .before) .party-places .ensures) (c .before .shares3 .given) (c .before .before .shares2 .ensures)
+part-w-in-range-end c =
+    let filled = c .before in
+    let shares = filled .before in
+    let start = begins shares in
+    places-enough _ _ (start .pre) _ _ (lends filled .party-places .ensures) (filled .shares3 .given) (shares .shares2 .ensures)
 
 -- src/lib.rt:81:9
 w-in-range-requires : tie.Need-w-in-range-requires
-w-in-range-requires c κs = few-shares _ _ (begins (c .before .before .before) .pre) (read-again _ _ (begins (c .before .before .before) .pre) _ _ (lends (c .before .before) .party-places .ensures) (c .before .before .shares3 .given) (c .before .before .before .shares2 .ensures))
+w-in-range-requires c κs =
+    let filled = c .before .before in
+    let shares = filled .before in
+    let start = begins shares in
+    few-shares _ _ (start .pre)
+    (read-again _ _ (start .pre) _ _ (lends filled .party-places .ensures) (filled .shares3 .given) (shares .shares2 .ensures))
 
 enum-told : tie.Need-enum-told
 enum-told c = search needs
@@ -74,7 +83,14 @@ nothing-carried-requires c κs = search needs
 
 -- src/lib.rt:84:9
 returns : tie.Need-returns
-returns c = w-refused _ _ (begins (fills (c .before .before .before) .before) .pre) (read-again _ _ (begins (fills (c .before .before .before) .before) .pre) _ _ (lends (fills (c .before .before .before)) .party-places .ensures) (fills (c .before .before .before) .shares3 .given) (fills (c .before .before .before) .before .shares2 .ensures)) (c .before .before .before .w-in-range .ensures) (c .before .enum-told2 .given .1) _
+returns c =
+    let told = c .before .before .before in
+    let filled = fills told in
+    let shares = filled .before in
+    let start = begins shares in
+    w-refused _ _ (start .pre)
+    (read-again _ _ (start .pre) _ _ (lends filled .party-places .ensures) (filled .shares3 .given) (shares .shares2 .ensures))
+    (told .w-in-range .ensures) (c .before .enum-told2 .given .1) _
 
 -- src/lib.rt:86:34
 sub-start : tie.Need-sub-start
@@ -86,15 +102,35 @@ part-start-start c = search needs
 
 -- src/lib.rt:86:34
 part-start-end : tie.Need-part-start-end
-part-start-end c = places-enough _ _ (begins (fills (c .before .before .before) .before) .pre) _ _ (lends (fills (c .before .before .before)) .party-places .ensures) (fills (c .before .before .before) .shares3 .given) (fills (c .before .before .before) .before .shares2 .ensures)
+part-start-end c =
+    let filled = fills (c .before .before .before) in
+    let shares = filled .before in
+    let start = begins shares in
+    places-enough _ _ (start .pre) _ _ (lends filled .party-places .ensures) (filled .shares3 .given) (shares .shares2 .ensures)
 
 -- src/lib.rt:86:9
 start-requires : tie.Need-start-requires
-start-requires c κs = startable _ _ (begins (fills (c .before .before .before .before) .before) .pre) (read-again _ _ (begins (fills (c .before .before .before .before) .before) .pre) _ _ (lends (fills (c .before .before .before .before)) .party-places .ensures) (fills (c .before .before .before .before) .shares3 .given) (fills (c .before .before .before .before) .before .shares2 .ensures)) (c .before .before .before .before .w-in-range .ensures) (c .before .before .enum-told .given .1)
+start-requires c κs =
+    let right = c .before .before in
+    let told = right .before .before in
+    let filled = fills told in
+    let shares = filled .before in
+    let start = begins shares in
+    startable _ _ (start .pre)
+    (read-again _ _ (start .pre) _ _ (lends filled .party-places .ensures) (filled .shares3 .given) (shares .shares2 .ensures))
+    (told .w-in-range .ensures) (right .enum-told .given .1)
 
 -- src/lib.rt:74:1
 returns-2 : tie.Need-returns-2
-returns-2 c = w-started _ _ (begins (fills (c .before .before .before .before .before) .before) .pre) (read-again _ _ (begins (fills (c .before .before .before .before .before) .before) .pre) _ _ (lends (fills (c .before .before .before .before .before)) .party-places .ensures) (fills (c .before .before .before .before .before) .shares3 .given) (fills (c .before .before .before .before .before) .before .shares2 .ensures)) (c .before .before .before .before .before .w-in-range .ensures) (c .before .before .before .enum-told .given .1) (c .start .ensures)
+returns-2 c =
+    let right = c .before .before .before in
+    let told = right .before .before in
+    let filled = fills told in
+    let shares = filled .before in
+    let start = begins shares in
+    w-started _ _ (start .pre)
+    (read-again _ _ (start .pre) _ _ (lends filled .party-places .ensures) (filled .shares3 .given) (shares .shares2 .ensures))
+    (told .w-in-range .ensures) (right .enum-told .given .1) (c .start .ensures)
 
 pub weigh-spec : {M : Type 1} → statement M
 weigh-spec =

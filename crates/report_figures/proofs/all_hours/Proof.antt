@@ -42,7 +42,15 @@ part-beginnings-end : tie.Need-part-beginnings-end
 part-beginnings-end c = omega (arith, places c .beginning-places .ensures, few c)
 
 make-requires : tie.Need-make-requires
-make-requires c κs = record { accepted = begins (c .before) .pre .accepted; fixed-size = begins (c .before) .pre .fixed-size; refixed-size = begins (c .before) .pre .refixed-size; curve-size = begins (c .before) .pre .curve-size; beginnings-size = search needs }
+make-requires c κs =
+    let start = begins (c .before) in
+    record {
+      accepted = start .pre .accepted;
+      fixed-size = start .pre .fixed-size;
+      refixed-size = start .pre .refixed-size;
+      curve-size = start .pre .curve-size;
+      beginnings-size = search needs;
+    }
 
 add-pass-made : tie.Need-add-pass-made
 add-pass-made c = search needs
@@ -54,10 +62,26 @@ part-pass-made-start : tie.Need-part-pass-made-start
 part-pass-made-start c = search needs
 
 part-pass-made-end : tie.Need-part-pass-made-end
-part-pass-made-end c = part-enough (makes (backs c) .make .ensures) (begins (makes (backs c) .before .before) .args .s .heading .hours + 1) (places (makes (backs c) .before .before) .beginning-places .result) (places (makes (backs c) .before .before) .beginning-places .ensures) (few (makes (backs c) .before .before)) ((backs c) .beginnings2 .given)
+part-pass-made-end c =
+    let lent = backs c in
+    let made = makes lent in
+    let asks = made .before .before in
+    part-enough (made .make .ensures) (begins asks .args .s .heading .hours + 1)
+    (places asks .beginning-places .result) (places asks .beginning-places .ensures) (few asks) (lent .beginnings2 .given)
 
 pass-made-requires : tie.Need-pass-made-requires
-pass-made-requires c κs = (begins (makes (backs (c .before .before .before)) .before .before) .pre .accepted, (as-lent-again (makes (backs (c .before .before .before)) .make .ensures) (begins (makes (backs (c .before .before .before)) .before .before) .args .s .heading .hours + 1) (places (makes (backs (c .before .before .before)) .before .before) .beginning-places .result) (places (makes (backs (c .before .before .before)) .before .before) .beginning-places .ensures) (few (makes (backs (c .before .before .before)) .before .before)) ((backs (c .before .before .before)) .beginnings2 .given), sums-lent (begins (makes (backs (c .before .before .before)) .before .before) .pre)))
+pass-made-requires c κs =
+    let lent = backs (c .before .before .before) in
+    let made = makes lent in
+    let asks = made .before .before in
+    let start = begins asks in (
+      start .pre .accepted,
+      (
+        as-lent-again (made .make .ensures) (start .args .s .heading .hours + 1)
+            (places asks .beginning-places .result) (places asks .beginning-places .ensures) (few asks) (lent .beginnings2 .given),
+        sums-lent (start .pre),
+      ),
+    )
 
 same-length : tie.Need-same-length
 same-length c = (backs (c .before .before .before .before .before .before .before)) .before .before .before .before .before .before .fixed-wh .given

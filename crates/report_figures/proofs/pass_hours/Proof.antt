@@ -44,10 +44,14 @@ begin-requires : tie.Need-begin-requires Inv-loop μ-loop
 begin-requires c κs = search needs
 
 loop-holds : tie.Need-loop-holds Inv-loop μ-loop
-loop-holds c = rw (c .before .none .ensures, c .begin .ensures) (goes (c .before .before .before .before .before .before .before .before .before .pre .0) (c .before .before .before .before .before .before .before .before .before .pre .1 .0) (c .before .before .before .before .before .before .before .before .before .pre .1 .1 .0) (c .before .before .before .before .before .before .before .before .before .pre .1 .1 .1))
+loop-holds c =
+    let start = c .before .before .before .before .before .before .before .before .before in
+    rw (c .before .none .ensures, c .begin .ensures) (goes (start .pre .0) (start .pre .1 .0) (start .pre .1 .1 .0) (start .pre .1 .1 .1))
 
 step-requires : tie.Need-step-requires Inv-loop μ-loop
-step-requires c κs = (begins (c .before .before .before) .pre .0, step-asked (begins (c .before .before .before) .pre .0) (c .before .before .before .loop .inv) (omega arith))
+step-requires c κs =
+    let round = c .before .before .before in
+    (begins round .pre .0, step-asked (begins round .pre .0) (round .loop .inv) (omega arith))
 
 enum-told : tie.Need-enum-told Inv-loop μ-loop
 enum-told c = search needs
@@ -68,13 +72,21 @@ returns : tie.Need-returns Inv-loop μ-loop
 returns c = stops (begins (loops (stopped c)) .pre .0) (loops (stopped c) .loop .inv) (omega arith) (stopped c .step .ensures) (c .enum-told2 .given .1) _ _ _
 
 pass-hour-requires : tie.Need-pass-hour-requires Inv-loop μ-loop
-pass-hour-requires c κs = hour-asked (begins (loops (steps (c .before .before .before))) .pre .0) (loops (steps (c .before .before .before)) .loop .inv) (omega arith) (steps (c .before .before .before) .step .ensures) (c .before .before .before .enum-told .given .1)
+pass-hour-requires c κs =
+    let told = c .before .before .before in
+    let stepped = steps told in
+    let round = loops stepped in
+    hour-asked (begins round .pre .0) (round .loop .inv) (omega arith) (stepped .step .ensures) (told .enum-told .given .1)
 
 loop-less : tie.Need-loop-less Inv-loop μ-loop
 loop-less c = omega (arith, steps (accepts (passes c)) .step .ensures .on (accepts (passes c) .enum-told .given .1) .one-on)
 
 loop-again : tie.Need-loop-again Inv-loop μ-loop
-loop-again c = goes-on (begins (loops (steps (accepts (passes c)))) .pre .0) (loops (steps (accepts (passes c))) .loop .inv) (omega arith) (steps (accepts (passes c)) .step .ensures) (accepts (passes c) .enum-told .given .1) (passes c .pass-hour .ensures)
+loop-again c =
+    let told = accepts (passes c) in
+    let stepped = steps told in
+    let round = loops stepped in
+    goes-on (begins round .pre .0) (round .loop .inv) (omega arith) (stepped .step .ensures) (told .enum-told .given .1) (passes c .pass-hour .ensures)
 
 same-length-4 : tie.Need-same-length-4 Inv-loop μ-loop
 same-length-4 c = c .before .before .loop .inv .walked .holds .size ∙ sym (begins (c .before .before) .pre .1 .1 .0)

@@ -23,7 +23,9 @@ none-requires : tie.Need-none-requires
 none-requires c κs = search needs
 
 returns : tie.Need-returns
-returns c = not-made (c .before .before .before .before .before .before .before .before .before .pre .1 .0) (c .before .enum-told2 .given .1) _ _ _
+returns c =
+    let start = c .before .before .before .before .before .before .before .before .before in
+    not-made (start .pre .1 .0) (c .before .enum-told2 .given .1) _ _ _
 
 window-places-requires : tie.Need-window-places-requires
 window-places-requires c κs = search needs
@@ -41,7 +43,14 @@ part-window-end : tie.Need-part-window-end
 part-window-end c = search needs
 
 pass-hours-requires : tie.Need-pass-hours-requires
-pass-hours-requires c κs = (month-known _ _ (begins (passes (c .before .before .before .before)) .pre .0) (begins (passes (c .before .before .before .before)) .pre .1 .0 .made (ap said (passes (c .before .before .before .before) .enum-told .given .1))) refl ((c .before .before .before .before) .applied .ensures), (beginning _ _ (begins (passes (c .before .before .before .before)) .pre .0) (begins (passes (c .before .before .before .before)) .pre .1 .0 .made (ap said (passes (c .before .before .before .before) .enum-told .given .1))), (search needs, begins (passes (c .before .before .before .before)) .pre .1 .1)))
+pass-hours-requires c κs =
+    let series = c .before .before .before .before in
+    let passed = passes series in
+    let start = begins passed in
+    let made = start .pre .1 .0 .made (ap said (passed .enum-told .given .1)) in (
+      month-known _ _ (start .pre .0) made refl (series .applied .ensures),
+      (beginning _ _ (start .pre .0) made, (search needs, start .pre .1 .1)),
+    )
 
 same-length : tie.Need-same-length
 same-length c = c .before .before .before .distributed-wh .given
@@ -50,7 +59,10 @@ same-length-2 : tie.Need-same-length-2
 same-length-2 c = c .before .before .periodised-wh .given
 
 returns-2 : tie.Need-returns-2
-returns-2 c = numbers-made (begins (passes (c .before .before .before .before .before .before .before .before .before .before)) .pre .1 .0) (passes (c .before .before .before .before .before .before .before .before .before .before) .enum-told .given .1) (c .before .before .before .before .before .pass-hours .ensures)
+returns-2 c =
+    let after-pass-hours = c .before .before .before .before .before in
+    let passed = passes (after-pass-hours .before .before .before .before .before) in
+    numbers-made (begins passed .pre .1 .0) (passed .enum-told .given .1) (after-pass-hours .pass-hours .ensures)
 
 pub pass-made-spec : {M : Type 1} → statement M
 pass-made-spec =
