@@ -28,13 +28,32 @@ module _ (m : MonthFile) {c : Carries} (started : Started (figures (P m) (shareO
   pub carried-start : Carried m 0 c
   unfolding sum at
   carried-start =
-      record { good = started .good; parties = started .parties ∙ shares-many; share = filled-as (subst (λ (n : ℕ). Filled 0 (at (figures (P m) (shareOf m))) n (c .share)) shares-many (started .share)) (λ k b. figures-at (P m) (shareOf m) k 0 b); residuals = started .sum }
+      record {
+        good = started .good;
+        parties = started .parties ∙ shares-many;
+        share =
+            filled-as (subst (λ (n : ℕ). Filled 0 (at (figures (P m) (shareOf m))) n (c .share)) shares-many (started .share))
+            (λ k b. figures-at (P m) (shareOf m) k 0 b);
+        residuals = started .sum;
+      }
 
 -- one hour
 module _ (m : MonthFile) (j : Judged m) {t : ℕ} (b : t < H m) {c : Carries} (a : Carried m t c) {residual : ℕ} (is : residual ≡ appliedWh m t) where
   pub ready : Ready c residual
   ready =
-      record { good = a .good; at-most = omega (arith, is, applied-in-range m j t b); sum-fits = omega (arith, a .residuals, sums-fitℕ t (appliedWh m) (λ u l. applied-in-range m j u (omega arith)), is, applied-in-range m j t b, few-hours m j) }
+      record {
+        good = a .good;
+        at-most = omega (arith, is, applied-in-range m j t b);
+        sum-fits =
+            omega (
+              arith,
+              a .residuals,
+              sums-fitℕ t (appliedWh m) (λ u l. applied-in-range m j u (omega arith)),
+              is,
+              applied-in-range m j t b,
+              few-hours m j,
+            );
+      }
 
   module _ {d : Carries} (next : Next c residual d) where
     same-share : (i : ℕ) → i < P m → at (c .share) i ≡ shareOf m i
@@ -58,4 +77,9 @@ module _ (m : MonthFile) (j : Judged m) {t : ℕ} (b : t < H m) {c : Carries} (a
     pub carried-next : Carried m (t + 1) d
     unfolding sum
     carried-next =
-        record { good = next .good; parties = next .parties ∙ a .parties; share = subst (λ (l : List ℕ). Filled 0 (shareOf m) (P m) l) (sym (next .share)) (a .share); residuals = rw (add-one t) (next .sum ∙ ap₂ (λ (y z : ℕ). y + z) (a .residuals) is) }
+        record {
+          good = next .good;
+          parties = next .parties ∙ a .parties;
+          share = subst (λ (l : List ℕ). Filled 0 (shareOf m) (P m) l) (sym (next .share)) (a .share);
+          residuals = rw (add-one t) (next .sum ∙ ap₂ (λ (y z : ℕ). y + z) (a .residuals) is);
+        }

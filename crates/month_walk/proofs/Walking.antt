@@ -90,13 +90,18 @@ module _ {file : List ℕ} {s : Sections} {applied curveNumbers beginnings : Lis
       pub ready : Ready (w .carries) (getD applied (w .t) 0)
       ready = C.ready m judged b (at .carried) (residual-is b)
 
-      pub step-on : opened .answer ≡ Done → {c : Carries} → Next (w .carries) (getD applied (w .t) 0) c → SteppedIs m (w .t) (record { answer = opened .answer; carries = c; t = w .t + 1; held = opened .held }) window′
+      pub step-on :
+          opened .answer ≡ Done
+          → {c : Carries}
+          → Next (w .carries) (getD applied (w .t) 0) c
+          → SteppedIs m (w .t) (record { answer = opened .answer; carries = c; t = w .t + 1; held = opened .held }) window′
       step-on done {c} next =
           let hour = is .opened done in
           let carried = C.carried-next m judged b (at .carried) (residual-is b) next in
           let come : w .t + 1 ≤ opened .held .start + opened .held .hours = omega (arith, hour .left) in
           let begun : opened .held .start ≤ w .t + 1 = omega (arith, hour .begun) in
-          let walked : Walked m (record { answer = opened .answer; carries = c; t = w .t + 1; held = opened .held }) window′ = record { carried = carried; holds = hour .holds; begun = begun; come = come } in
+          let walked : Walked m (record { answer = opened .answer; carries = c; t = w .t + 1; held = opened .held }) window′ =
+          record { carried = carried; holds = hour .holds; begun = begun; come = come } in
           let given = C.figures-are m judged b (at .carried) (residual-is b) next in
           record { on = λ e. record { walked = walked; one-on = refl; hour = hour; distributed = given }; stopped = is .stopped }
 
@@ -127,9 +132,24 @@ module _ {file : List ℕ} {s : Sections} {t residual : ℕ} {x : Held} {distrib
 
   pub hour-known : HourKnown file s residual window (x .hours) (t - x .start) t
   hour-known =
-      record { accepted = a .accepted; judged = a .judged; hour = in-month; residual-is = a .residual-is; asked = column-there; periodised-is = periodised-is; in-limit = limit-here }
+      record {
+        accepted = a .accepted;
+        judged = a .judged;
+        hour = in-month;
+        residual-is = a .residual-is;
+        asked = column-there;
+        periodised-is = periodised-is;
+        in-limit = limit-here;
+      }
 
 -- what a step leaves known of its hour
-pub hour-on : {file : List ℕ} {s : Sections} {applied curveNumbers beginnings : List ℕ} → MonthKnown file s applied curveNumbers beginnings → {t : ℕ} → t < H (monthOf file) → {w : Walk} {window : List ℕ} → HourOn (monthOf file) t w window → HourAsked file s t (getD applied t 0) (w .held) (w .carries .figures) window
+pub hour-on :
+    {file : List ℕ} {s : Sections} {applied curveNumbers beginnings : List ℕ}
+    → MonthKnown file s applied curveNumbers beginnings
+    → {t : ℕ}
+    → t < H (monthOf file)
+    → {w : Walk} {window : List ℕ}
+    → HourOn (monthOf file) t w window
+    → HourAsked file s t (getD applied t 0) (w .held) (w .carries .figures) window
 hour-on known b on =
     record { accepted = known .windows .accepted; judged = known .windows .judged; residual-is = residual-is known b; distributed-are = on .distributed; hour = on .hour }
