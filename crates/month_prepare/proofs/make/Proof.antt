@@ -24,36 +24,29 @@ judges c = c .before .before .before .before .before .before .before
 abbrev curves : tie.After-curve-and-readings-arg3 → tie.After-known-told2
 curves c = c .before .before .before
 
--- src/lib.rt:141:9
 weigh-requires : tie.Need-weigh-requires
 weigh-requires c κs = search needs
 
 enum-told : tie.Need-enum-told
 enum-told c = search needs
 
--- src/lib.rt:145:9
 enum-told-2 : tie.Need-enum-told-2
 enum-told-2 c = search needs
 
--- src/lib.rt:145:9
 returns : tie.Need-returns
 returns c =
     let weighed = c .before .before .before in
     w-refuses _ _ (begins weighed .pre .accepted) (weighed .weigh .ensures) (c .enum-told2 .given .1) _ _ _ _ _
 
--- src/lib.rt:151:9
 both-series-requires : tie.Need-both-series-requires
 both-series-requires c κs = search needs
 
--- src/lib.rt:153:25
 enum-known-judged : tie.Need-enum-known-judged
 enum-known-judged c = search needs
 
--- src/lib.rt:158:25
 enum-known-judged-2 : tie.Need-enum-known-judged-2
 enum-known-judged-2 c = search needs
 
--- src/lib.rt:160:17
 curve-and-readings-requires : tie.Need-curve-and-readings-requires
 curve-and-readings-requires c κs =
     let told = curves c in
@@ -65,15 +58,12 @@ curve-and-readings-requires c κs =
     (series .both-series .ensures) (told .before .judged2 .given .1)
     (start .pre .curve-size) (start .pre .beginnings-size)
 
--- src/lib.rt:130:1
 same-length : tie.Need-same-length
 same-length c = search needs
 
--- src/lib.rt:130:1
 same-length-2 : tie.Need-same-length-2
 same-length-2 c = search needs
 
--- src/lib.rt:130:1
 returns-2 : tie.Need-returns-2
 returns-2 c =
     let series = refuses c in
@@ -82,23 +72,18 @@ returns-2 c =
     series-refuse _ _ (begins weighed .pre .accepted) (weighed .weigh .ensures) (right .enum-told .given .1)
     (series .both-series .ensures) (c .before .judged .given .1) _ _ _
 
--- src/lib.rt:130:1
 same-length-3 : tie.Need-same-length-3
 same-length-3 c = search needs
 
--- src/lib.rt:130:1
 same-length-4 : tie.Need-same-length-4
 same-length-4 c = search needs
 
--- src/lib.rt:130:1
 same-length-5 : tie.Need-same-length-5
 same-length-5 c = search needs
 
--- src/lib.rt:130:1
 same-length-6 : tie.Need-same-length-6
 same-length-6 c = search needs
 
--- src/lib.rt:130:1
 returns-3 : tie.Need-returns-3
 returns-3 c =
     let made = c .before .before .before .before in

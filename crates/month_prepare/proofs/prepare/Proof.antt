@@ -16,79 +16,60 @@ begins c = c .before .before .before .before .before .before
 abbrev places : tie.After-beginnings → tie.After-beginning-places
 places c = c .before .before .before .before
 
--- src/lib.rt:175:17
 cast-hours : tie.Need-cast-hours
 cast-hours c = search needs
 
--- src/lib.rt:177:24
 hour-places-requires : tie.Need-hour-places-requires
 hour-places-requires c κs = search needs
 
--- src/lib.rt:178:26
 hour-places-requires-2 : tie.Need-hour-places-requires-2
 hour-places-requires-2 c κs = search needs
 
--- src/lib.rt:179:21
 hour-places-requires-3 : tie.Need-hour-places-requires-3
 hour-places-requires-3 c κs = search needs
 
--- src/lib.rt:180:26
 beginning-places-requires : tie.Need-beginning-places-requires
 beginning-places-requires c κs = search needs
 
--- src/lib.rt:184:9
 sub-make : tie.Need-sub-make
 sub-make c = search needs
 
--- src/lib.rt:184:9
 part-fixed-wh-start : tie.Need-part-fixed-wh-start
 part-fixed-wh-start c = search needs
 
--- src/lib.rt:184:9
 part-fixed-wh-end : tie.Need-part-fixed-wh-end
 part-fixed-wh-end c = omega (arith, c .before .before .before .hour-places .ensures, few-hours _ _ (begins c .pre))
 
--- src/lib.rt:185:9
 sub-make-2 : tie.Need-sub-make-2
 sub-make-2 c = search needs
 
--- src/lib.rt:185:9
 part-refixed-wh-start : tie.Need-part-refixed-wh-start
 part-refixed-wh-start c = search needs
 
--- src/lib.rt:185:9
 part-refixed-wh-end : tie.Need-part-refixed-wh-end
 part-refixed-wh-end c = omega (arith, c .before .before .before .hour-places2 .ensures, few-refixed _ _ (begins (c .before) .pre))
 
--- src/lib.rt:186:9
 sub-make-3 : tie.Need-sub-make-3
 sub-make-3 c = search needs
 
--- src/lib.rt:186:9
 part-curve-start : tie.Need-part-curve-start
 part-curve-start c = search needs
 
--- src/lib.rt:186:9
 part-curve-end : tie.Need-part-curve-end
 part-curve-end c = omega (arith, c .before .before .before .hour-places3 .ensures, few-hours _ _ (begins (c .before .before) .pre))
 
--- src/lib.rt:187:28
 add-make : tie.Need-add-make
 add-make c = search needs
 
--- src/lib.rt:187:9
 sub-make-4 : tie.Need-sub-make-4
 sub-make-4 c = search needs
 
--- src/lib.rt:187:9
 part-beginnings-start : tie.Need-part-beginnings-start
 part-beginnings-start c = search needs
 
--- src/lib.rt:187:9
 part-beginnings-end : tie.Need-part-beginnings-end
 part-beginnings-end c = omega (arith, c .before .before .before .beginning-places .ensures, few-hours _ _ (begins (c .before .before .before) .pre))
 
--- src/lib.rt:181:9
 make-requires : tie.Need-make-requires
 make-requires c κs =
     record {
@@ -99,7 +80,6 @@ make-requires c κs =
       beginnings-size = search needs;
     }
 
--- src/lib.rt:171:1
 returns : tie.Need-returns
 returns c =
     let after-refixed-wh2 = c .before .before in

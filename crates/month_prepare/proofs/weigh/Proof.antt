@@ -25,35 +25,27 @@ fills c = c .before .before .before
 cast-n : tie.Need-cast-n
 cast-n c = search needs
 
--- src/lib.rt:79:22
 party-places-requires : tie.Need-party-places-requires
 party-places-requires c κs = search needs
 
--- src/lib.rt:80:35
 sub-shares : tie.Need-sub-shares
 sub-shares c = search needs
 
--- src/lib.rt:80:35
 part-shares-start : tie.Need-part-shares-start
 part-shares-start c = search needs
 
--- src/lib.rt:80:35
 part-shares-end : tie.Need-part-shares-end
 part-shares-end c = omega (arith, c .party-places .ensures, few-parties _ _ (c .before .before .before .pre))
 
--- src/lib.rt:80:5
 shares-requires : tie.Need-shares-requires
 shares-requires c κs = search needs
 
--- src/lib.rt:81:40
 sub-w-in-range : tie.Need-sub-w-in-range
 sub-w-in-range c = search needs
 
--- src/lib.rt:81:40
 part-w-in-range-start : tie.Need-part-w-in-range-start
 part-w-in-range-start c = search needs
 
--- src/lib.rt:81:40
 part-w-in-range-end : tie.Need-part-w-in-range-end
 part-w-in-range-end c =
     let filled = c .before in
@@ -61,7 +53,6 @@ part-w-in-range-end c =
     let start = begins shares in
     places-enough _ _ (start .pre) _ _ (lends filled .party-places .ensures) (filled .shares3 .given) (shares .shares2 .ensures)
 
--- src/lib.rt:81:9
 w-in-range-requires : tie.Need-w-in-range-requires
 w-in-range-requires c κs =
     let filled = c .before .before in
@@ -73,15 +64,12 @@ w-in-range-requires c κs =
 enum-told : tie.Need-enum-told
 enum-told c = search needs
 
--- src/lib.rt:83:13
 enum-told-2 : tie.Need-enum-told-2
 enum-told-2 c = search needs
 
--- src/lib.rt:83:13
 nothing-carried-requires : tie.Need-nothing-carried-requires
 nothing-carried-requires c κs = search needs
 
--- src/lib.rt:84:9
 returns : tie.Need-returns
 returns c =
     let told = c .before .before .before in
@@ -92,15 +80,12 @@ returns c =
     (read-again _ _ (start .pre) _ _ (lends filled .party-places .ensures) (filled .shares3 .given) (shares .shares2 .ensures))
     (told .w-in-range .ensures) (c .before .enum-told2 .given .1) _
 
--- src/lib.rt:86:34
 sub-start : tie.Need-sub-start
 sub-start c = search needs
 
--- src/lib.rt:86:34
 part-start-start : tie.Need-part-start-start
 part-start-start c = search needs
 
--- src/lib.rt:86:34
 part-start-end : tie.Need-part-start-end
 part-start-end c =
     let filled = fills (c .before .before .before) in
@@ -108,7 +93,6 @@ part-start-end c =
     let start = begins shares in
     places-enough _ _ (start .pre) _ _ (lends filled .party-places .ensures) (filled .shares3 .given) (shares .shares2 .ensures)
 
--- src/lib.rt:86:9
 start-requires : tie.Need-start-requires
 start-requires c κs =
     let right = c .before .before in
@@ -120,7 +104,6 @@ start-requires c κs =
     (read-again _ _ (start .pre) _ _ (lends filled .party-places .ensures) (filled .shares3 .given) (shares .shares2 .ensures))
     (told .w-in-range .ensures) (right .enum-told .given .1)
 
--- src/lib.rt:74:1
 returns-2 : tie.Need-returns-2
 returns-2 c =
     let right = c .before .before .before in

@@ -6,27 +6,21 @@ use borrow.Author.Needs.{needs}
 use Rattle.settle_c.proofs.code.Statement.{statement}
 use Rattle.settle_c.proofs.code.Tie as tie
 
--- src/lib.rt:35:25
 enum-told : tie.Need-enum-told
 enum-told c = search needs
 
--- src/lib.rt:36:25
 enum-known-a : tie.Need-enum-known-a
 enum-known-a c = search needs
 
--- src/lib.rt:36:54
 number-requires : tie.Need-number-requires
 number-requires c κs = search needs
 
--- src/lib.rt:36:44
 number-at-requires : tie.Need-number-at-requires
 number-at-requires c κs = search needs
 
--- src/lib.rt:31:1
 returns : tie.Need-returns
 returns c = accepted-code (ap said (sym (c .enum-told .given .1)))
 
--- src/lib.rt:31:1
 returns-2 : tie.Need-returns-2
 returns-2 c = refused-code (c .before .before .before .a .given .1) (c .before .number .ensures) (c .number-at .ensures)
 

@@ -6,11 +6,9 @@ use borrow.Author.Needs.{needs}
 use Rattle.settle_c.proofs.settle_invoice_ore.Statement.{statement}
 use Rattle.settle_c.proofs.settle_invoice_ore.Tie as tie
 
--- src/lib.rt:127:5
 invoice-ore-requires : tie.Need-invoice-ore-requires
 invoice-ore-requires c κs = search needs
 
--- src/lib.rt:123:1
 returns : tie.Need-returns
 returns c = toZ-ofZ (search needs) ∙ c .invoice-ore .ensures ∙ ap invoiceOre (toZ-ofZ (c .before .fits .amount-millionths))
 
