@@ -22,7 +22,7 @@ use Rattle.month_walk.specs.Hours.{HourKnown, DistributedIs}
 use Rattle.month_walk.specs.Walking.{MonthKnown, Beginning, Holds, Holding, HoldsHour, OpenedIs, Walked, begun, HourOn, SteppedIs, HourAsked, windowPlaces}
 use Rattle.month_walk.proofs.Bounds.{few-hours, few-parties}
 use Rattle.month_walk.proofs.Carrying as C
-use Rattle.rules.specs.Limits.{greatestPeriodised}
+use Rattle.rules.specs.Limits.{greatestPeriodised, mostHours}
 use Rattle.rules.specs.Month.{monthOf, appliedWh, periodised, allPeriodised, periodisedVerdict}
 use Rattle.rules.specs.MonthFile.{MonthFile, H, P}
 use Rattle.rules.specs.Refusals as R
@@ -71,7 +71,7 @@ module _ {file : List ℕ} {s : Sections} {applied curveNumbers beginnings : Lis
     pub residual-is : getD applied t 0 ≡ appliedWh m t
     residual-is = ap (λ (l : List ℕ). getD l t 0) (known .applied-is) ∙ figures-at (H m) (appliedWh m) t 0 b
 
-    pub few : t < 745
+    pub few : t < mostHours
     few = omega (arith, few-hours m judged)
 
   -- A STEP
