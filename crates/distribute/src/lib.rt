@@ -71,8 +71,8 @@ fn divide(grown: &[u64; 64], n: usize, w: u64) -> Divided
     Divided { quotient, rest }
 }
 
-// The sum of the first n.
-fn total(values: &[u64; 64], n: usize) -> u64
+// The sum of the first n: W of shares, what the quotients give out, a column of the statement.
+pub fn total(values: &[u64; 64], n: usize) -> u64
     requires { ⌜ (n ≤ mostParties) × (sum n (at (now values)) < 18446744073709551616) ⌝ }
     ensures { λ r. ⌜ r ≡ sum n (at (now (values .entry))) ⌝ }
 {

@@ -1,8 +1,9 @@
 -- Laws of whole numbers of either sign that the library has not: differences of two naturals, one law for all; the product over a sum; sums.
 use mathlib.Core.Bool.{Bool, true, false}
 use mathlib.Core.Path.{_≡_, refl, sym, _∙_, ap, ap₂}
-use Prim.Native.Nat.{ℕ, zero, suc, _+_, _-_, _*_, _≤_, _<_, zero-le}
-use native.Mathlib.Nat.{add-zero, add-suc}
+use Prim.Native.Nat.{ℕ, zero, suc, _+_, _-_, _*_, _≤_, _<_, _^_, zero-le}
+use native.Mathlib.Nat.{add-zero, add-suc, le-antisymm}
+use native.Mathlib.Numerals.{add-one}
 use native.Mathlib.Omega.{arith}
 use borrow.Author.Tests.{ltb-true, ltb-false, lt-ltb, le-ltb}
 use lib.Dec.{ltb, le→leb}
@@ -184,3 +185,24 @@ growths-add-up standing start (suc hours) =
     rw (add-suc start hours)
     (ap (λ (x : ℤ). x +ℤ (pos (standing (suc (start + hours))) -ℤ pos (standing (start + hours)))) (growths-add-up standing start hours)
     ∙ minus-chain (standing start) (standing (start + hours)) (standing (suc (start + hours))))
+
+-- A LOOP THAT ADDS UP THE FIRST n FIGURES OF EITHER SIGN: after i of them it has their sum
+pub record Addingℤ (f : ℕ → ℤ) (n : ℕ) (all : ℤ) (i : ℕ) : Type 0 where
+  pub bound : i ≤ n
+  pub so-far : all ≡ sumℤ i f
+
+pub add-startℤ : (f : ℕ → ℤ) (n : ℕ) → Addingℤ f n (pos 0) 0
+unfolding sumℤ
+add-startℤ f n = record { bound = zero-le; so-far = refl }
+
+module _ {f : ℕ → ℤ} {n : ℕ} {all : ℤ} {i : ℕ} (a : Addingℤ f n all i) where
+  pub add-fitsℤ : {v : ℤ} → v ≡ f i → natAbs (sumℤ (suc i) f) < 2 ^ 63 → natAbs (all +ℤ v) < 2 ^ 63
+  unfolding sumℤ
+  add-fitsℤ e fits = rw (e, a .so-far) fits
+
+  pub add-nextℤ : i < n → {v r : ℤ} → v ≡ f i → r ≡ all +ℤ v → Addingℤ f n r (i + 1)
+  unfolding sumℤ
+  add-nextℤ b e s = record { bound = omega arith; so-far = rw (add-one i) (s ∙ ap₂ (λ (x y : ℤ). x +ℤ y) (a .so-far) e) }
+
+  pub add-endℤ : n ≤ i → all ≡ sumℤ n f
+  add-endℤ b = a .so-far ∙ ap (λ (k : ℕ). sumℤ k f) (le-antisymm (a .bound) b)

@@ -1,8 +1,9 @@
--- Laws of `sum`: each by one induction on how many figures are added.
+-- Laws of `sum`: each by one induction on how many figures are added; and what a loop that adds up has.
 use mathlib.Core.Path.{_≡_, refl, sym, _∙_, ap}
-use Prim.Native.Nat.{ℕ, zero, suc, _+_, _*_, _≤_, _<_}
+use Prim.Native.Nat.{ℕ, zero, suc, _+_, _-_, _*_, _≤_, _<_, zero-le}
 use mathlib.Core.Logic.{⊎-elim}
-use native.Mathlib.Nat.{le-refl, zero-mul, add-suc, add-zero, eq-or-lt-of-le, le-of-suc-le-suc}
+use native.Mathlib.Nat.{le-refl, le-antisymm, zero-mul, add-suc, add-zero, eq-or-lt-of-le, le-of-suc-le-suc}
+use native.Mathlib.Numerals.{add-one}
 use native.Mathlib.Omega.{arith}
 use Rattle.rules.specs.Words.{sum}
 
@@ -61,3 +62,28 @@ pub sum-swap : (n h : ℕ) (f : ℕ → ℕ → ℕ) → sum n (λ i. sum h (λ 
 unfolding sum
 sum-swap zero h f = sym (sum-zero h (λ t b. refl))
 sum-swap (suc n) h f = ap (λ (k : ℕ). k + sum h (λ t. f t n)) (sum-swap n h f) ∙ sym (sum-add h (λ t. sum n (f t)) (λ t. f t n))
+
+-- A LOOP THAT ADDS UP THE FIRST n OF A SERIES: after i of them it has their sum
+pub record Adding (f : ℕ → ℕ) (n all i : ℕ) : Type 0 where
+  pub bound : i ≤ n
+  pub so-far : all ≡ sum i f
+
+pub add-start : (f : ℕ → ℕ) (n : ℕ) → Adding f n 0 0
+unfolding sum
+add-start f n = record { bound = zero-le; so-far = refl }
+
+module _ {f : ℕ → ℕ} {n all i : ℕ} (a : Adding f n all i) where
+  pub add-next : i < n → {v : ℕ} → v ≡ f i → Adding f n (all + v) (i + 1)
+  unfolding sum
+  add-next b {v} e = record { bound = omega arith; so-far = rw (add-one i) (omega (arith, a .so-far, e)) }
+
+  -- the next sum is no more than the whole
+  pub add-room : i < n → {v : ℕ} → v ≡ f i → all + v ≤ sum n f
+  unfolding sum
+  add-room b {v} e =
+      let whole : suc i + (n - suc i) ≡ n = omega arith in
+      let split : sum (suc i + (n - suc i)) f ≡ sum (suc i) f + sum (n - suc i) (λ k. f (suc i + k)) = sum-split (suc i) (n - suc i) f in
+      omega (arith, split, a .so-far, e, ap (λ (k : ℕ). sum k f) whole)
+
+  pub add-end : n ≤ i → all ≡ sum n f
+  add-end b = a .so-far ∙ ap (λ (k : ℕ). sum k f) (le-antisymm (a .bound) b)

@@ -1,4 +1,3 @@
-pub mod Totals
 pub mod PartyLines
 pub mod Statements
 pub mod Texts
