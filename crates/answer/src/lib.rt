@@ -1,11 +1,6 @@
 // What a call answers: done, or refused by name at a place (01 "Refusal numbers"). The paper's number of each refusal stands in `rules`, once; `said`
 // of specs/Said.antt reads an answer as the verdict of the rules.
-ghost use mathlib.Core.Path.{_≡_};
-ghost use Rattle.answer.specs.Ranges.{betweenℤ};
-ghost use Rattle.answer.specs.Said.{named, said};
-ghost use Rattle.rules.specs.Refusals.{numberOf};
-ghost use Rattle.rules.specs.Services.{eachAt, eachAtℤ};
-ghost use Rattle.rules.specs.Words.{atMost};
+ghost use Rattle.answer.specs.Promised.{NumberPromised, EachAtMostPromised, WithinPromised, EachWithinPromised};
 
 // The refusals, in the order of the paper's table.
 pub enum Refusal {
@@ -35,7 +30,7 @@ pub enum Answer {
 
 // The paper's number of a refusal.
 pub fn number(r: Refusal) -> u8
-    ensures { λ n. ⌜ n ≡ numberOf (named r) ⌝ }
+    ensures { λ n. ⌜ NumberPromised r n ⌝ }
 {
     match r {
         Refusal::FileFault => 1,
@@ -59,7 +54,7 @@ pub fn number(r: Refusal) -> u8
 
 // "the place of 4 is the first value outside in its list": every value is at most `most`, or the first that is above it is refused at its place.
 pub fn each_at_most_u64(values: &[u64], most: u64, otherwise: Refusal) -> Answer
-    ensures { λ r. ⌜ said r ≡ eachAt (now (values .entry)) (atMost most) (named otherwise) ⌝ }
+    ensures { λ r. ⌜ EachAtMostPromised (now (values .entry)) most otherwise r ⌝ }
 {
     let mut i = 0;
     while i < values.len() {
@@ -73,7 +68,7 @@ pub fn each_at_most_u64(values: &[u64], most: u64, otherwise: Refusal) -> Answer
 
 // The same of figures of 32 bits.
 pub fn each_at_most_u32(figures: &[u32], most: u32, otherwise: Refusal) -> Answer
-    ensures { λ r. ⌜ said r ≡ eachAt (now (figures .entry)) (atMost most) (named otherwise) ⌝ }
+    ensures { λ r. ⌜ EachAtMostPromised (now (figures .entry)) most otherwise r ⌝ }
 {
     let mut i = 0;
     while i < figures.len() {
@@ -87,14 +82,14 @@ pub fn each_at_most_u32(figures: &[u32], most: u32, otherwise: Refusal) -> Answe
 
 // Whether a signed figure lies in a range, both of its ends within it.
 pub fn within_i64(figure: i64, lowest: i64, greatest: i64) -> bool
-    ensures { λ r. ⌜ r ≡ betweenℤ lowest greatest figure ⌝ }
+    ensures { λ r. ⌜ WithinPromised figure lowest greatest r ⌝ }
 {
     (lowest <= figure) & (figure <= greatest)
 }
 
 // The same of signed figures: the first that lies outside the range is refused at its place.
 pub fn each_within_i64(figures: &[i64], lowest: i64, greatest: i64, otherwise: Refusal) -> Answer
-    ensures { λ r. ⌜ said r ≡ eachAtℤ (now (figures .entry)) (betweenℤ lowest greatest) (named otherwise) ⌝ }
+    ensures { λ r. ⌜ EachWithinPromised (now (figures .entry)) lowest greatest otherwise r ⌝ }
 {
     let mut i = 0;
     while i < figures.len() {

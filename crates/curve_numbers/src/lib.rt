@@ -7,9 +7,10 @@ ghost use Prim.Native.Nat.{_<_, _/_};
 ghost use lib.ListN.{length};
 ghost use Rattle.answer.specs.Said.{said};
 ghost use Rattle.curve_numbers.specs.Passes.{curveShape, CurveReady};
+ghost use Rattle.curve_numbers.specs.Promised.{Promised};
 ghost use Rattle.rules.specs.Flows.{curveNumber};
-ghost use Rattle.rules.specs.Refusals.{curveTooLarge, first, afterwards};
-ghost use Rattle.rules.specs.Services.{eachAt, curveFits, curveChecks, curveFigures};
+ghost use Rattle.rules.specs.Refusals.{curveTooLarge};
+ghost use Rattle.rules.specs.Services.{eachAt, curveFits, curveFigures};
 
 // "Curve number at most 1,000,000,000.", as wide as one that is not judged yet.
 const GREATEST_CURVE_NUMBER: u64 = limits::GREATEST_CURVE_NUMBER as u64;
@@ -79,8 +80,7 @@ fn write_curve(residuals: &[u32], w: u64, out: &mut [u32])
 
 // CURVE: the curve number of each hour into the lent series, or the first refusal and nothing written.
 pub fn curve(residuals: &[u32], w: u64, out: &mut [u32]) -> Answer
-    ensures answer { λ r. ⌜ said r ≡ first (curveChecks (now (residuals .entry)) w (length (now (out .entry)))) ⌝ }
-    ensures contents { λ r. ⌜ now (out .exit) ≡ afterwards (said r) (curveFigures (now (residuals .entry)) w) (now (out .entry)) ⌝ }
+    ensures { λ r. ⌜ Promised (now (residuals .entry)) w (now (out .entry)) r (now (out .exit)) ⌝ }
 {
     let shape = curve_shape(residuals.len(), w, out.len());
     let Answer::Done = shape else {

@@ -11,9 +11,9 @@ ghost use Prim.Native.Nat.{_*_};
 ghost use lib.Dec.{eqb};
 ghost use lib.ListN.{length};
 ghost use Rattle.answer.specs.Said.{said};
+ghost use Rattle.distribute_service.specs.Promised.{Promised};
 ghost use Rattle.distribute_service.specs.Service.{shapeVerdict, Distributable};
-ghost use Rattle.rules.specs.Refusals.{first, afterwards};
-ghost use Rattle.rules.specs.Services.{distributionChecks, distributionFigures};
+ghost use Rattle.rules.specs.Services.{distributionFigures};
 
 // Whether a lent output has a place for each party in each hour; by division, since the product could pass 64 bits.
 fn lent_right(lent: usize, parties: usize, hours: usize) -> bool
@@ -64,8 +64,7 @@ fn distribute(shares: &[u64], residuals: &[u32], out: &mut [i64])
 // DISTRIBUTION. The figures of every hour, hour by hour and within an hour party by party. Refuses 16, 4 (H, P, a share at its party), 6 and 9, in that
 // order.
 pub fn distribution(shares: &[u64], residuals: &[u32], out: &mut [i64]) -> Answer
-    ensures answer { λ r. ⌜ said r ≡ first (distributionChecks (now (shares .entry)) (now (residuals .entry)) (length (now (out .entry)))) ⌝ }
-    ensures contents { λ r. ⌜ now (out .exit) ≡ afterwards (said r) (distributionFigures (now (shares .entry)) (now (residuals .entry))) (now (out .entry)) ⌝ }
+    ensures { λ r. ⌜ Promised (now (shares .entry)) (now (residuals .entry)) (now (out .entry)) r (now (out .exit)) ⌝ }
 {
     let shaped = shape(out.len(), shares.len(), residuals.len());
     let Answer::Done = shaped else {

@@ -41,6 +41,10 @@ abbrev pub readAnswer : Answer MonthFile → Answer Sections
 readAnswer (given m) = given (sectionsOf m)
 readAnswer (refusal r place) = refusal r place
 
+-- THE PROMISE of `read`: its `ensures` cites it, and so does what is proved of every service (`every_service`)
+abbrev pub Promised : List ℕ → MonthRead → Type 0
+Promised file r = told r ≡ readAnswer (readMonth file)
+
 -- the file is accepted, with these sections
 pub record Accepted (file : List ℕ) (s : Sections) : Type 0 where
   pub is : readAnswer (readMonth file) ≡ given s

@@ -6,8 +6,7 @@ use file_step::Walk;
 use record::Heading;
 ghost use mathlib.Core.Path.{_≡_};
 ghost use Rattle.file_step.specs.Walk.{Few};
-ghost use Rattle.file_sections.specs.Walk.{sectionsIn, told, readAnswer};
-ghost use Rattle.rules.specs.MonthFile.{readMonth};
+ghost use Rattle.file_sections.specs.Walk.{sectionsIn, Promised};
 
 // An accepted file: its heading, how many refixed hours and readings it has, and where each section starts.
 pub struct Sections {
@@ -53,7 +52,7 @@ fn laid_out(w: Walk) -> Sections
 // A WHOLE FILE, record by record. Refuses 1 where it is empty or too long, before all else; then each record by 2, 1, 3, 4, 5, 11, 12, 15; then 1 for a
 // missing end and for bytes after it, at the number of complete records.
 pub fn read(file: &[u8]) -> MonthRead
-    ensures { λ r. ⌜ told r ≡ readAnswer (readMonth (now (file .entry))) ⌝ }
+    ensures { λ r. ⌜ Promised (now (file .entry)) r ⌝ }
 {
     if file.len() < 1 {
         return MonthRead::Refused(Refusal::FileFault, 0);

@@ -1,1 +1,2 @@
 pub mod Gln
+pub mod Promised

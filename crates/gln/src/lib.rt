@@ -1,7 +1,7 @@
 // The GLN of a party (01 "The month file": "GLN 13 ASCII digits"; "The GLN's last digit makes the sum of all digits, weighted 1, 3, 1, 3 .. from the
 // right, a multiple of 10"): its test, its number, and the part of a file that holds it.
 ghost use mathlib.Core.Path.{_≡_};
-ghost use Rattle.gln.specs.Gln.{glnAnswer, glnPart};
+ghost use Rattle.gln.specs.Promised.{CheckPromised, PartAtPromised};
 ghost use Rattle.rules.specs.Gln.{weightFromRight};
 
 // A GLN's thirteen digits as one number, or the answer that it is none.
@@ -22,7 +22,7 @@ fn weight(place: usize) -> u64
 
 // One pass over the digits: the number and the weighted sum grow with each, and the first byte that is no digit ends it.
 pub fn check(part: &[u8]) -> Gln
-    ensures { λ r. ⌜ r ≡ glnAnswer (now (part .entry)) ⌝ }
+    ensures { λ r. ⌜ CheckPromised (now (part .entry)) r ⌝ }
 {
     if part.len() != limits::GLN_DIGITS {
         return Gln::Invalid;
@@ -51,7 +51,7 @@ pub fn check(part: &[u8]) -> Gln
 
 // The thirteen bytes from a place on, as a part of the file and no copy; an empty part where they run past its end.
 pub fn part_at<'a>(file: &'a [u8], at: usize) -> &'a [u8]
-    ensures { λ r. ⌜ now r ≡ glnPart (now (file .entry)) at ⌝ }
+    ensures { λ r. ⌜ PartAtPromised (now (file .entry)) at (now r) ⌝ }
 {
     if file.len() < limits::GLN_DIGITS {
         return &file[0..0];

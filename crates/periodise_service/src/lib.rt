@@ -7,8 +7,7 @@ ghost use lib.ListN.{length};
 ghost use Rattle.answer.specs.Said.{said};
 ghost use Rattle.periodise.specs.Growth.{growthFrom, Within};
 ghost use Rattle.periodise_service.specs.Follow.{followCheck};
-ghost use Rattle.rules.specs.Refusals.{first, afterwards};
-ghost use Rattle.rules.specs.Services.{periodisationChecks, periodisationFigures};
+ghost use Rattle.periodise_service.specs.Promised.{Promised};
 ghost use Rattle.rules.specs.Words.{figures, at};
 
 // The growths of a reading whose hours all stand here. `periodise::add` goes the same way hour by hour; its figures are added as ones of 64 bits, these are
@@ -44,8 +43,7 @@ fn followed_by(e: u64, s: u64) -> Answer
 
 // The service. "periodisation 11, 12, 10, 13 (all at place 0 but 10)", after 16.
 pub fn periodisation(e: u64, weights: &[u32], out: &mut [u32]) -> Answer
-    ensures answer { λ r. ⌜ said r ≡ first (periodisationChecks e (now (weights .entry)) (length (now (out .entry)))) ⌝ }
-    ensures contents { λ r. ⌜ now (out .exit) ≡ afterwards (said r) (periodisationFigures e (now (weights .entry))) (now (out .entry)) ⌝ }
+    ensures { λ r. ⌜ Promised e (now (weights .entry)) (now (out .entry)) r (now (out .exit)) ⌝ }
 {
     if out.len() != weights.len() {
         return Answer::Refused(Refusal::WrongLength, 0);

@@ -10,9 +10,9 @@ use answer::Refusal;
 ghost use mathlib.Core.Path.{_≡_};
 ghost use Prim.Native.Nat.{_≤_};
 ghost use lib.ListN.{length, take, drop};
-ghost use Rattle.answer.specs.Said.{said};
-ghost use Rattle.record.specs.Record.{recordOf, headingOf, flowsOf, readingOf, glnBytes, flowsAt, faultOf, told, recordAs, Whole};
-ghost use Rattle.rules.specs.Record.{headingKind, readingKind, heading, reading, numberOnto, signed, recordAt, bodyLength, readAlone};
+ghost use Rattle.record.specs.Record.{recordOf, headingOf, flowsOf, readingOf, glnBytes, flowsAt, recordAs, Whole};
+ghost use Rattle.record.specs.Promised.{BodyLengthPromised, FaultPromised, ReadAlonePromised};
+ghost use Rattle.rules.specs.Record.{headingKind, readingKind, heading, reading, numberOnto, signed, recordAt};
 
 // "01 heading: area 2, year 2, month 1, hours H 2, parties P 1, loss carrier 1"
 pub struct Heading {
@@ -83,7 +83,7 @@ pub const TOP_8: u64 = 18446744073709551615;
 
 // "The body lengths, by kind, are these", and 0 for an unknown kind: reader and writer have them from one table.
 pub fn body_length(kind: u8) -> usize
-    ensures { λ n. ⌜ n ≡ bodyLength kind ⌝ }
+    ensures { λ n. ⌜ BodyLengthPromised kind n ⌝ }
 {
     let k = kind as usize;
     table::BODY[k] as usize
@@ -163,7 +163,7 @@ pub fn decode(part: &[u8]) -> Record
 // THE RULE OF A RECORD'S FIELDS, 4, 5, 11, 12 in that order, kind by kind, for a file of so many hours and parties, at a place. The bytes of a party's GLN
 // stand beside it; of another kind they are not looked at.
 pub fn fault(r: Record, gln: &[u8], hours: u16, parties: u8, place: usize) -> Answer
-    ensures { λ a. ⌜ said a ≡ faultOf hours parties (now (gln .entry)) r place ⌝ }
+    ensures { λ a. ⌜ FaultPromised r (now (gln .entry)) hours parties place a ⌝ }
 {
     match r {
         Record::Heading(h) => rule::unless(rule::heading_in_range(h), Refusal::OutOfRange, place),
@@ -190,7 +190,7 @@ pub fn fault(r: Record, gln: &[u8], hours: u16, parties: u8, place: usize) -> An
 
 // "One record can also be read alone, by 2, 1 and then the same rules (an empty part is 1); bytes after it are not looked at."
 pub fn read_alone(part: &[u8]) -> Read
-    ensures { λ r. ⌜ told (glnBytes (now (part .entry))) r ≡ readAlone (now (part .entry)) ⌝ }
+    ensures { λ r. ⌜ ReadAlonePromised (now (part .entry)) r ⌝ }
 {
     if part.len() < 1 {
         return Read::Refused(Refusal::FileFault, 0);

@@ -17,6 +17,7 @@ use Rattle.answer.specs.declared.Answer.the-variants.{Done, Refused}
 use Rattle.answer.specs.declared.Refusal as A′
 use Rattle.record.specs.Record.{recordOf, faultOf}
 use Rattle.record_write.specs.Writing.{kindOf, Writable, roomFor}
+pub use Rattle.record_write.specs.Writing.{Promised}
 use Rattle.record.specs.declared.Record as C
 use Rattle.record.specs.declared.Record.the-variants.{Heading, Party, FixedHour, Reading, Price, RefixedHour, End}
 use Rattle.rules.specs.Limits.{mostHours, mostParties, greatestPrice, glnDigits}
@@ -62,10 +63,6 @@ module _ {gln : List ℕ} {r : C.Record} {out : List ℕ} (w : Writable gln r ou
 set-at-start : (bytes out : List ℕ) → length bytes ≤ length out → sets out 0 bytes ≡ bytes ++ drop (length bytes) out
 set-at-start bytes out h =
     sets-eq bytes out 0 (rw (zero-add (length bytes)) h) ∙ ap (λ (n : ℕ). bytes ++ drop n out) (zero-add (length bytes))
-
--- what the writer promises under a verdict: its answer, and what the part then holds
-abbrev pub Promised : Record → List ℕ → Verdict → Answer ℕ → List ℕ → Type 0
-Promised r out v a after = (a ≡ answer v (length (recordBytes r))) × (after ≡ afterwards v (written r out) out)
 
 -- 16, or the bytes
 module _ (gln : List ℕ) (r : C.Record) (out : List ℕ) (e : first (checks alone (recordOf gln r)) ≡ accepted) where

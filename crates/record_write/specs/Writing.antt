@@ -11,7 +11,7 @@ use Rattle.record_write.specs.declared.Written.{Written}
 use Rattle.record_write.specs.declared.Written.the-variants.{Bytes, Refused}
 use Rattle.rules.specs.Flows.{Flows}
 use Rattle.rules.specs.Record as RRecord
-use Rattle.rules.specs.Refusals.{wrongLength, Verdict, accepted, Answer, given, refusal, unless, first}
+use Rattle.rules.specs.Refusals.{wrongLength, Verdict, accepted, Answer, given, refusal, unless, first, answer, afterwards}
 use Rattle.rules.specs.Words.{joined}
 
 -- a record's kind byte: no GLN is needed for it
@@ -35,3 +35,11 @@ roomFor r lent = unless (leb (length (RRecord.recordBytes r)) (length lent)) wro
 abbrev pub wrote : Written → Answer ℕ
 wrote (Bytes n) = given n
 wrote (Refused r place) = refusal (named r) place
+
+-- what writing a record into a lent part promises under a verdict: "the number of bytes", and what the part then holds
+abbrev pub Promised : RRecord.Record → List ℕ → Verdict → Answer ℕ → List ℕ → Type 0
+Promised r lent v a held = (a ≡ answer v (length (RRecord.recordBytes r))) × (held ≡ afterwards v (RRecord.written r lent) lent)
+
+-- THE PROMISE of `write`: its `ensures` cites it, and so does what is proved of every service (`every_service`)
+abbrev pub WritePromised : Record → List ℕ → List ℕ → Written → List ℕ → Type 0
+WritePromised r gln lent w held = Promised (recordOf gln r) lent (RRecord.writeVerdict (recordOf gln r) (length lent)) (wrote w) held

@@ -20,10 +20,10 @@ ghost use lib.ListN.{length};
 ghost use lib.Seq.{sets};
 ghost use lib.Signed.{mag};
 ghost use Rattle.record.specs.Record.{recordOf, headingOf, flowsOf, readingOf};
-ghost use Rattle.record_write.specs.Writing.{wrote, kindOf, hourBytes, Writable, roomFor};
+ghost use Rattle.record_write.specs.Writing.{wrote, kindOf, hourBytes, Writable, roomFor, Promised, WritePromised};
 ghost use Rattle.rules.specs.Limits.{glnDigits};
-ghost use Rattle.rules.specs.Record.{heading, reading, price, end, recordBytes, alone, checks, writeVerdict, written};
-ghost use Rattle.rules.specs.Refusals.{accepted, first, afterwards, answer};
+ghost use Rattle.rules.specs.Record.{heading, reading, price, end, recordBytes, alone, checks};
+ghost use Rattle.rules.specs.Refusals.{accepted, first};
 
 // The kinds as the numbers that are written.
 const HEADING: u64 = kind::HEADING as u64;
@@ -153,9 +153,7 @@ fn encode(r: Record, gln: &[u8], out: &mut [u8])
 // 16, "record writer: too short", of a record that has no fault; else "kind and body at its start, nothing further on touched, and the number of bytes".
 fn put_record(r: Record, gln: &[u8], out: &mut [u8]) -> Written
     requires { ⌜ first (checks alone (recordOf (now gln) r)) ≡ accepted ⌝ }
-    ensures answer { λ w. ⌜ wrote w ≡ answer (roomFor (recordOf (now (gln .entry)) r) (now (out .entry))) (length (recordBytes (recordOf (now (gln .entry)) r))) ⌝ }
-    ensures contents { λ w. ⌜ now (out .exit) ≡ afterwards (roomFor (recordOf (now (gln .entry)) r) (now (out .entry)))
-        (written (recordOf (now (gln .entry)) r) (now (out .entry))) (now (out .entry)) ⌝ }
+    ensures { λ w. ⌜ Promised (recordOf (now (gln .entry)) r) (now (out .entry)) (roomFor (recordOf (now (gln .entry)) r) (now (out .entry))) (wrote w) (now (out .exit)) ⌝ }
 {
     let n = 1 + record::body_length(kind_of(r));
     if out.len() < n {
@@ -167,9 +165,7 @@ fn put_record(r: Record, gln: &[u8], out: &mut [u8]) -> Written
 
 // "The record writer takes one record's fields and a lent part": 4, 5, 11, 12, then 16.
 pub fn write(r: Record, gln: &[u8], out: &mut [u8]) -> Written
-    ensures answer { λ w. ⌜ wrote w ≡ answer (writeVerdict (recordOf (now (gln .entry)) r) (length (now (out .entry)))) (length (recordBytes (recordOf (now (gln .entry)) r))) ⌝ }
-    ensures contents { λ w. ⌜ now (out .exit) ≡ afterwards (writeVerdict (recordOf (now (gln .entry)) r) (length (now (out .entry))))
-        (written (recordOf (now (gln .entry)) r) (now (out .entry))) (now (out .entry)) ⌝ }
+    ensures { λ w. ⌜ WritePromised r (now (gln .entry)) (now (out .entry)) w (now (out .exit)) ⌝ }
 {
     let a = record::fault(r, gln, MOST_HOURS, MOST_PARTIES, 0);
     match a {

@@ -1,2 +1,3 @@
 pub mod Applied
 pub mod Hour
+pub mod Promised

@@ -1,9 +1,9 @@
 // The residual of an hour, judged, and of two series the applied one (01 "From flows to the curve"). `residual_service` has the residuals of a whole series as a
 // call alone, `curve_numbers` the curve.
 ghost use mathlib.Core.Path.{_≡_};
-ghost use Rattle.rules.specs.Flows.{residual, judgedBy};
-ghost use Rattle.residual.specs.Applied.{appliedOf};
-ghost use Rattle.residual.specs.Hour.{judgement, flowsHere, WithinLimits};
+ghost use Rattle.rules.specs.Flows.{residual};
+ghost use Rattle.residual.specs.Hour.{flowsHere, WithinLimits};
+ghost use Rattle.residual.specs.Promised.{JudgePromised, AppliedPromised};
 
 // "Residual 0..2,000,000,000.", as wide as a residual that may be negative.
 const GREATEST_RESIDUAL: i64 = limits::GREATEST_RESIDUAL_WH as i64;
@@ -18,7 +18,7 @@ pub enum Hour {
 
 // "then the fixed hours in order, each 7, 8, 9": one hour, by its status and the ranges of its residual.
 pub fn judge(status: u8, residual_wh: i64) -> Hour
-    ensures { λ r. ⌜ judgement r ≡ judgedBy status «residual_wh» ⌝ }
+    ensures { λ r. ⌜ JudgePromised status «residual_wh» r ⌝ }
 {
     match status {
         limits::MISSING => Hour::Missing,
@@ -43,7 +43,7 @@ pub fn residual_of(net: i64, production: u64, hourly: u64, flex: u64) -> i64
 
 // "The applied series is the refixed series if the file has one, otherwise the fixed series." A part of one of the two.
 pub fn applied<'a>(fixed: &'a [u32], refixed: &'a [u32], has_refixed: bool) -> &'a [u32]
-    ensures { λ r. ⌜ now r ≡ appliedOf (now (fixed .entry)) (now (refixed .entry)) «has_refixed» ⌝ }
+    ensures { λ r. ⌜ AppliedPromised (now (fixed .entry)) (now (refixed .entry)) «has_refixed» (now r) ⌝ }
 {
     if has_refixed {
         &refixed[0..refixed.len()]

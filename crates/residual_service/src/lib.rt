@@ -5,11 +5,12 @@ ghost use lib.ListN.{length};
 ghost use Rattle.answer.specs.Said.{said};
 ghost use Rattle.rules.specs.Flows.{silentIsZero, verdictOf};
 ghost use Rattle.rules.specs.Limits.{estimated};
-ghost use Rattle.rules.specs.Refusals.{outOfRange, first, inTurn, afterwards};
-ghost use Rattle.rules.specs.Services.{eachAt, silentCheck, hourCheck, residualChecks, residualFigures};
+ghost use Rattle.rules.specs.Refusals.{outOfRange, inTurn};
+ghost use Rattle.rules.specs.Services.{eachAt, silentCheck, hourCheck, residualFigures};
 ghost use Rattle.rules.specs.Words.{atMost};
 ghost use Rattle.residual.specs.Hour.{judgement, flowsHere};
 ghost use Rattle.residual_service.specs.Passes.{residualHere, WithinLimitsAt, residualShape, rangesOf, SameLengths, Ranged, Judged};
+ghost use Rattle.residual_service.specs.Promised.{Promised};
 use answer::Answer;
 use answer::Refusal;
 use residual::Hour;
@@ -200,12 +201,8 @@ pub fn residual(
     flexes: &[u64],
     out: &mut [u32],
 ) -> Answer
-    ensures answer { λ r. ⌜ said r ≡ first
-        (residualChecks (now (statuses .entry)) (now (nets .entry)) (now (productions .entry)) (now (hourlies .entry)) (now (flexes .entry))
-        (length (now (out .entry)))) ⌝ }
-    ensures contents { λ r. ⌜ now (out .exit) ≡ afterwards (said r)
-        (residualFigures (now (statuses .entry)) (now (nets .entry)) (now (productions .entry)) (now (hourlies .entry)) (now (flexes .entry)))
-        (now (out .entry)) ⌝ }
+    ensures { λ r. ⌜ Promised (now (statuses .entry)) (now (nets .entry)) (now (productions .entry)) (now (hourlies .entry)) (now (flexes .entry))
+        (now (out .entry)) r (now (out .exit)) ⌝ }
 {
     let shape = residual_shape(
         statuses.len(),

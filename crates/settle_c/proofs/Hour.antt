@@ -7,8 +7,7 @@ use lib.ListN.{length}
 use Rattle.answer.specs.Said.{said}
 use Rattle.answer.specs.declared.Answer.the-variants as A
 use Rattle.answer.specs.declared.Refusal.{Refusal}
-use Rattle.reconcile_service.proofs.Unique.{Promised}
-use Rattle.reconcile_service.specs.Told.{verdict, told}
+use Rattle.reconcile_service.specs.Told.{verdict, told, Promised}
 use Rattle.reconcile_service.specs.declared.Reconciled.{Reconciled}
 use Rattle.reconcile_service.specs.declared.Reconciled.the-variants.{Loss, Refused}
 use Rattle.rules.specs.Refusals as R

@@ -3,14 +3,10 @@
 use answer::Answer;
 use reconcile_service::Reconciled;
 ghost use mathlib.Core.Path.{_≡_};
-ghost use lib.ListN.{length};
 ghost use Rattle.answer.specs.Said.{said};
-ghost use Rattle.rules.specs.Reconciliation.{invoiceOre};
-ghost use Rattle.rules.specs.Refusals.{first, afterwards};
-ghost use Rattle.rules.specs.Services.{residualChecks, residualFigures, curveChecks, curveFigures};
-ghost use Rattle.rules.specs.Services.{distributionChecks, distributionFigures, periodisationChecks, periodisationFigures};
-ghost use Rattle.rules.specs.Services.{reconciliationChecks, reconciliationLoss, reconciliationDifferences, reconciliationAmounts};
-ghost use Rattle.settle_c.specs.Coded.{numberAt, coded, kept};
+ghost use Rattle.reconcile.specs.Promised.{InvoiceOrePromised};
+ghost use Rattle.settle_c.specs.Coded.{numberAt, coded};
+ghost use Rattle.settle_c.specs.Promised.{ResidualPromised, CurvePromised, DistributionPromised, PeriodisationPromised, ReconciliationPromised};
 
 // Up to this place, 2 ^ 56 - 1, number + 256 x place is within 64 bits. Every service refuses far below it.
 const GREATEST_PLACE: usize = 72_057_594_037_927_935;
@@ -48,16 +44,8 @@ pub extern "C" fn settle_residual(
     flexes: &[u64],
     out: &mut [u32],
 ) -> u64
-    ensures answer { λ r. ⌜ r ≡ coded
-        (first
-        (residualChecks (now (statuses .entry)) (now (nets .entry)) (now (productions .entry)) (now (hourlies .entry)) (now (flexes .entry))
-        (length (now (out .entry))))) ⌝ }
-    ensures contents { λ _. ⌜ now (out .exit) ≡ afterwards
-        (first
-        (residualChecks (now (statuses .entry)) (now (nets .entry)) (now (productions .entry)) (now (hourlies .entry)) (now (flexes .entry))
-        (length (now (out .entry)))))
-        (residualFigures (now (statuses .entry)) (now (nets .entry)) (now (productions .entry)) (now (hourlies .entry)) (now (flexes .entry)))
-        (now (out .entry)) ⌝ }
+    ensures { λ r. ⌜ ResidualPromised (now (statuses .entry)) (now (nets .entry)) (now (productions .entry)) (now (hourlies .entry)) (now (flexes .entry))
+        (now (out .entry)) r (now (out .exit)) ⌝ }
 {
     let answered = residual_service::residual(statuses, nets, productions, hourlies, flexes, out);
     code(answered)
@@ -66,11 +54,7 @@ pub extern "C" fn settle_residual(
 // CURVE: the curve number of each hour into `out`.
 #[no_mangle]
 pub extern "C" fn settle_curve(residuals: &[u32], w: u64, out: &mut [u32]) -> u64
-    ensures answer { λ r. ⌜ r ≡ coded (first (curveChecks (now (residuals .entry)) w (length (now (out .entry))))) ⌝ }
-    ensures contents { λ _. ⌜ now (out .exit) ≡ afterwards
-        (first (curveChecks (now (residuals .entry)) w (length (now (out .entry)))))
-        (curveFigures (now (residuals .entry)) w)
-        (now (out .entry)) ⌝ }
+    ensures { λ r. ⌜ CurvePromised (now (residuals .entry)) w (now (out .entry)) r (now (out .exit)) ⌝ }
 {
     let answered = curve_numbers::curve(residuals, w, out);
     code(answered)
@@ -79,11 +63,7 @@ pub extern "C" fn settle_curve(residuals: &[u32], w: u64, out: &mut [u32]) -> u6
 // DISTRIBUTION: the figures of every hour into `out`, hour by hour and within an hour party by party.
 #[no_mangle]
 pub extern "C" fn settle_distribution(shares: &[u64], residuals: &[u32], out: &mut [i64]) -> u64
-    ensures answer { λ r. ⌜ r ≡ coded (first (distributionChecks (now (shares .entry)) (now (residuals .entry)) (length (now (out .entry))))) ⌝ }
-    ensures contents { λ _. ⌜ now (out .exit) ≡ afterwards
-        (first (distributionChecks (now (shares .entry)) (now (residuals .entry)) (length (now (out .entry)))))
-        (distributionFigures (now (shares .entry)) (now (residuals .entry)))
-        (now (out .entry)) ⌝ }
+    ensures { λ r. ⌜ DistributionPromised (now (shares .entry)) (now (residuals .entry)) (now (out .entry)) r (now (out .exit)) ⌝ }
 {
     let answered = distribute_service::distribution(shares, residuals, out);
     code(answered)
@@ -92,11 +72,7 @@ pub extern "C" fn settle_distribution(shares: &[u64], residuals: &[u32], out: &m
 // PERIODISATION: a reading's growth in each hour into `out`.
 #[no_mangle]
 pub extern "C" fn settle_periodisation(e: u64, weights: &[u32], out: &mut [u32]) -> u64
-    ensures answer { λ r. ⌜ r ≡ coded (first (periodisationChecks e (now (weights .entry)) (length (now (out .entry))))) ⌝ }
-    ensures contents { λ _. ⌜ now (out .exit) ≡ afterwards
-        (first (periodisationChecks e (now (weights .entry)) (length (now (out .entry)))))
-        (periodisationFigures e (now (weights .entry)))
-        (now (out .entry)) ⌝ }
+    ensures { λ r. ⌜ PeriodisationPromised e (now (weights .entry)) (now (out .entry)) r (now (out .exit)) ⌝ }
 {
     let answered = periodise_service::periodisation(e, weights, out);
     code(answered)
@@ -114,30 +90,9 @@ pub extern "C" fn settle_reconciliation(
     amounts_millionths: &mut [i64],
     loss_wh: &mut i64,
 ) -> u64
-    ensures answer { λ r. ⌜ r ≡ coded
-        (first
-        (reconciliationChecks «residual_wh» (now («distributed_wh» .entry)) (now («periodised_wh» .entry)) carrier «price_ore»
-        (length (now («differences_wh» .entry))) (length (now («amounts_millionths» .entry))))) ⌝ }
-    ensures loss { λ _. ⌜ now («loss_wh» .exit) ≡ kept
-        (first
-        (reconciliationChecks «residual_wh» (now («distributed_wh» .entry)) (now («periodised_wh» .entry)) carrier «price_ore»
-        (length (now («differences_wh» .entry))) (length (now («amounts_millionths» .entry)))))
-        (reconciliationLoss «residual_wh» (now («periodised_wh» .entry)))
-        (now («loss_wh» .entry)) ⌝ }
-    ensures differences { λ _. ⌜ now («differences_wh» .exit) ≡ afterwards
-        (first
-        (reconciliationChecks «residual_wh» (now («distributed_wh» .entry)) (now («periodised_wh» .entry)) carrier «price_ore»
-        (length (now («differences_wh» .entry))) (length (now («amounts_millionths» .entry)))))
-        (reconciliationDifferences «residual_wh» (now («distributed_wh» .entry)) (now («periodised_wh» .entry)) carrier)
-        (now («differences_wh» .entry)) ⌝ }
-    ensures amounts { λ _. ⌜ now («amounts_millionths» .exit) ≡ afterwards
-        (first
-        (reconciliationChecks «residual_wh» (now («distributed_wh» .entry)) (now («periodised_wh» .entry)) carrier «price_ore»
-        (length (now («differences_wh» .entry))) (length (now («amounts_millionths» .entry)))))
-        (reconciliationAmounts
-        (reconciliationDifferences «residual_wh» (now («distributed_wh» .entry)) (now («periodised_wh» .entry)) carrier)
-        «price_ore»)
-        (now («amounts_millionths» .entry)) ⌝ }
+    ensures { λ r. ⌜ ReconciliationPromised «residual_wh» (now («distributed_wh» .entry)) (now («periodised_wh» .entry)) carrier «price_ore»
+        (now («differences_wh» .entry)) (now («amounts_millionths» .entry)) (now («loss_wh» .entry))
+        r (now («differences_wh» .exit)) (now («amounts_millionths» .exit)) (now («loss_wh» .exit)) ⌝ }
 {
     let answered = reconcile_service::reconciliation(
         residual_wh,
@@ -163,7 +118,7 @@ pub extern "C" fn settle_reconciliation(
 // INVOICE: whole øre of one exact amount, nearest, halves away from zero. Refuses nothing.
 #[no_mangle]
 pub extern "C" fn settle_invoice_ore(amount_millionths: i64) -> i64
-    ensures { λ r. ⌜ r ≡ invoiceOre «amount_millionths» ⌝ }
+    ensures { λ r. ⌜ InvoiceOrePromised «amount_millionths» r ⌝ }
 {
     reconcile::invoice_ore(amount_millionths)
 }

@@ -17,11 +17,11 @@ enum-told-2 : tie.Need-enum-told-2
 enum-told-2 c = search needs
 
 returns : tie.Need-returns
-returns c = (
-  pass-refuses _ (c .before .before .curve-shape .ensures) (c .enum-told2 .given .1)
-      ∙ in-parts _ _ _,
-  unwritten _ _ (c .enum-told2 .given .1),
-)
+returns c = record {
+  answer = pass-refuses _ (c .before .before .curve-shape .ensures) (c .enum-told2 .given .1)
+      ∙ in-parts _ _ _;
+  contents = unwritten _ _ (c .enum-told2 .given .1);
+}
 
 each-at-most-u32-requires : tie.Need-each-at-most-u32-requires
 each-at-most-u32-requires c κs = search needs
@@ -34,12 +34,12 @@ enum-told-4 c = search needs
 
 returns-2 : tie.Need-returns-2
 returns-2 c =
-    let c1 = c .before .before .before in (
-      pass-accepts _ (c1 .before .before .curve-shape .ensures) (c1 .enum-told .given .1)
+    let c1 = c .before .before .before in record {
+      answer = pass-accepts _ (c1 .before .before .curve-shape .ensures) (c1 .enum-told .given .1)
           (pass-refuses _ (c .before .before .each-at-most-u32 .ensures) (c .enum-told4 .given .1))
-          ∙ in-parts _ _ _,
-      unwritten _ _ (c .enum-told4 .given .1),
-    )
+          ∙ in-parts _ _ _;
+      contents = unwritten _ _ (c .enum-told4 .given .1);
+    }
 
 curve-numbers-fit-requires : tie.Need-curve-numbers-fit-requires
 curve-numbers-fit-requires c κs =
@@ -56,13 +56,13 @@ enum-told-6 c = search needs
 returns-3 : tie.Need-returns-3
 returns-3 c =
     let c2 = c .before .before .before in
-    let c1 = c2 .before .before .before in (
-      pass-accepts _ (c1 .before .before .curve-shape .ensures) (c1 .enum-told .given .1)
+    let c1 = c2 .before .before .before in record {
+      answer = pass-accepts _ (c1 .before .before .curve-shape .ensures) (c1 .enum-told .given .1)
           (pass-accepts _ (c2 .before .before .each-at-most-u32 .ensures) (c2 .enum-told3 .given .1)
           (pass-refuses _ (c .before .before .curve-numbers-fit .ensures) (c .enum-told6 .given .1)))
-          ∙ in-parts _ _ _,
-      unwritten _ _ (c .enum-told6 .given .1),
-    )
+          ∙ in-parts _ _ _;
+      contents = unwritten _ _ (c .enum-told6 .given .1);
+    }
 
 write-curve-requires : tie.Need-write-curve-requires
 write-curve-requires c κs =
@@ -84,14 +84,14 @@ unfolding afterwards
 returns-4 c =
     let c3 = c .before .before .before .before in
     let c2 = c3 .before .before .before in
-    let c1 = c2 .before .before .before in (
-      pass-accepts _ (c1 .before .before .curve-shape .ensures) (c1 .enum-told .given .1)
+    let c1 = c2 .before .before .before in record {
+      answer = pass-accepts _ (c1 .before .before .curve-shape .ensures) (c1 .enum-told .given .1)
           (pass-accepts _ (c2 .before .before .each-at-most-u32 .ensures) (c2 .enum-told3 .given .1)
           (pass-accepts _ (c3 .before .before .curve-numbers-fit .ensures) (c3 .enum-told5 .given .1)
           none-left))
-          ∙ in-parts _ _ _,
-      c .before .before .write-curve .ensures,
-    )
+          ∙ in-parts _ _ _;
+      contents = c .before .before .write-curve .ensures;
+    }
 
 pub curve-spec : {M : Type 1} → statement M
 curve-spec =

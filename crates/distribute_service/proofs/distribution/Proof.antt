@@ -17,10 +17,7 @@ enum-told-2 : tie.Need-enum-told-2
 enum-told-2 c = search needs
 
 returns : tie.Need-returns
-returns c = (
-  pass-refuses _ (c .before .before .shape .ensures) (c .enum-told2 .given .1) ∙ in-parts _ _ _,
-  unwritten _ _ (c .enum-told2 .given .1),
-)
+returns c = record { answer = pass-refuses _ (c .before .before .shape .ensures) (c .enum-told2 .given .1) ∙ in-parts _ _ _; contents = unwritten _ _ (c .enum-told2 .given .1) }
 
 each-at-most-u64-requires : tie.Need-each-at-most-u64-requires
 each-at-most-u64-requires c κs = search needs
@@ -33,12 +30,12 @@ enum-told-4 c = search needs
 
 returns-2 : tie.Need-returns-2
 returns-2 c =
-    let c1 = c .before .before .before in (
-      pass-accepts _ (c1 .before .before .shape .ensures) (c1 .enum-told .given .1)
+    let c1 = c .before .before .before in record {
+      answer = pass-accepts _ (c1 .before .before .shape .ensures) (c1 .enum-told .given .1)
           (pass-refuses _ (c .before .before .each-at-most-u64 .ensures) (c .enum-told4 .given .1))
-          ∙ in-parts _ _ _,
-      unwritten _ _ (c .enum-told4 .given .1),
-    )
+          ∙ in-parts _ _ _;
+      contents = unwritten _ _ (c .enum-told4 .given .1);
+    }
 
 w-in-range-requires : tie.Need-w-in-range-requires
 w-in-range-requires c κs =
@@ -56,13 +53,13 @@ enum-told-6 c = search needs
 returns-3 : tie.Need-returns-3
 returns-3 c =
     let c2 = c .before .before .before in
-    let c1 = c2 .before .before .before in (
-      pass-accepts _ (c1 .before .before .shape .ensures) (c1 .enum-told .given .1)
+    let c1 = c2 .before .before .before in record {
+      answer = pass-accepts _ (c1 .before .before .shape .ensures) (c1 .enum-told .given .1)
           (pass-accepts _ (c2 .before .before .each-at-most-u64 .ensures) (c2 .enum-told3 .given .1)
           (pass-refuses _ (c .before .before .w-in-range .ensures) (c .enum-told6 .given .1)))
-          ∙ in-parts _ _ _,
-      unwritten _ _ (c .enum-told6 .given .1),
-    )
+          ∙ in-parts _ _ _;
+      contents = unwritten _ _ (c .enum-told6 .given .1);
+    }
 
 each-at-most-u32-requires : tie.Need-each-at-most-u32-requires
 each-at-most-u32-requires c κs = search needs
@@ -77,14 +74,14 @@ returns-4 : tie.Need-returns-4
 returns-4 c =
     let c3 = c .before .before .before in
     let c2 = c3 .before .before .before in
-    let c1 = c2 .before .before .before in (
-      pass-accepts _ (c1 .before .before .shape .ensures) (c1 .enum-told .given .1)
+    let c1 = c2 .before .before .before in record {
+      answer = pass-accepts _ (c1 .before .before .shape .ensures) (c1 .enum-told .given .1)
           (pass-accepts _ (c2 .before .before .each-at-most-u64 .ensures) (c2 .enum-told3 .given .1)
           (pass-accepts _ (c3 .before .before .w-in-range .ensures) (c3 .enum-told5 .given .1)
           (pass-refuses _ (c .before .before .each-at-most-u32 .ensures) (c .enum-told8 .given .1))))
-          ∙ in-parts _ _ _,
-      unwritten _ _ (c .enum-told8 .given .1),
-    )
+          ∙ in-parts _ _ _;
+      contents = unwritten _ _ (c .enum-told8 .given .1);
+    }
 
 distribute-requires : tie.Need-distribute-requires
 distribute-requires c κs =
@@ -104,15 +101,15 @@ returns-5 c =
     let c4 = c .before .before .before in
     let c3 = c4 .before .before .before in
     let c2 = c3 .before .before .before in
-    let c1 = c2 .before .before .before in (
-      pass-accepts _ (c1 .before .before .shape .ensures) (c1 .enum-told .given .1)
+    let c1 = c2 .before .before .before in record {
+      answer = pass-accepts _ (c1 .before .before .shape .ensures) (c1 .enum-told .given .1)
           (pass-accepts _ (c2 .before .before .each-at-most-u64 .ensures) (c2 .enum-told3 .given .1)
           (pass-accepts _ (c3 .before .before .w-in-range .ensures) (c3 .enum-told5 .given .1)
           (pass-accepts _ (c4 .before .before .each-at-most-u32 .ensures) (c4 .enum-told7 .given .1)
           none-left)))
-          ∙ in-parts _ _ _,
-      c .before .distribute .ensures,
-    )
+          ∙ in-parts _ _ _;
+      contents = c .before .distribute .ensures;
+    }
 
 pub distribution-spec : {M : Type 1} → statement M
 distribution-spec =

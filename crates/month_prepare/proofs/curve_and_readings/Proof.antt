@@ -23,7 +23,7 @@ returns : tie.Need-returns
 returns c =
     let after-curve = c .before .before .before .before in
     let start = after-curve .before .before .before .before .before .before in
-    curve-refused (start .pre) (after-curve .curve .ensures .0) _ (after-curve .curve .ensures .1) (c .enum-told2 .given .1) _
+    curve-refused (start .pre) (after-curve .curve .ensures .answer) _ (after-curve .curve .ensures .contents) (c .enum-told2 .given .1) _
 
 beginnings-requires : tie.Need-beginnings-requires
 beginnings-requires c κs =
@@ -32,11 +32,11 @@ beginnings-requires c κs =
     let start = after-curve .before .before .before .before .before .before in (
       start .pre .beginnings-size
           ∙ ap suc
-          (sym (numbers-many (start .pre) (after-curve .curve .ensures .0) _ (after-curve .curve .ensures .1) (after-enum-told .enum-told .given .1))),
+          (sym (numbers-many (start .pre) (after-curve .curve .ensures .answer) _ (after-curve .curve .ensures .contents) (after-enum-told .enum-told .given .1))),
       omega (
         arith,
         few (start .pre),
-        numbers-many (start .pre) (after-curve .curve .ensures .0) _ (after-curve .curve .ensures .1) (after-enum-told .enum-told .given .1),
+        numbers-many (start .pre) (after-curve .curve .ensures .answer) _ (after-curve .curve .ensures .contents) (after-enum-told .enum-told .given .1),
       ),
     )
 
@@ -47,7 +47,7 @@ followed-requires c κs =
     let after-curve = after-enum-told .before .before .before .before in
     let start = after-curve .before .before .before .before .before .before in (
       start .pre .accepted,
-      begun-are (start .pre) (after-curve .curve .ensures .0) _ (after-curve .curve .ensures .1) (after-enum-told .enum-told .given .1)
+      begun-are (start .pre) (after-curve .curve .ensures .answer) _ (after-curve .curve .ensures .contents) (after-enum-told .enum-told .given .1)
           (after-beginnings .beginnings .ensures),
     )
 
@@ -63,7 +63,7 @@ returns-2 c =
     let after-enum-told = after-beginnings .before .before .before in
     let after-curve = after-enum-told .before .before .before .before in
     let start = after-curve .before .before .before .before .before .before in
-    curve-known (start .pre) (after-curve .curve .ensures .0) _ (after-curve .curve .ensures .1) (after-enum-told .enum-told .given .1)
+    curve-known (start .pre) (after-curve .curve .ensures .answer) _ (after-curve .curve .ensures .contents) (after-enum-told .enum-told .given .1)
     (after-beginnings .beginnings .ensures) (c .followed .result) (c .followed .ensures)
 
 pub curve-and-readings-spec : {M : Type 1} → statement M

@@ -37,22 +37,22 @@ summed c =
 
 returns : tie.Need-returns
 unfolding afterwards
-returns c = (lent-wrong _ _ _ (c .if1 .taken), refl)
+returns c = record { answer = lent-wrong _ _ _ (c .if1 .taken); contents = refl }
 
 returns-2 : tie.Need-returns-2
 unfolding afterwards
-returns-2 c = (no-hours _ _ _ (c .before .if1 .left) (c .if2 .taken), refl)
+returns-2 c = record { answer = no-hours _ _ _ (c .before .if1 .left) (c .if2 .taken); contents = refl }
 
 returns-3 : tie.Need-returns-3
 unfolding afterwards
-returns-3 c = (too-many-hours _ _ _ (c .before .before .if1 .left) (c .before .if2 .left) (c .if3 .taken), refl)
+returns-3 c = record { answer = too-many-hours _ _ _ (c .before .before .if1 .left) (c .before .if2 .left) (c .if3 .taken); contents = refl }
 
 cast-if4 : tie.Need-cast-if4
 cast-if4 c = search needs
 
 returns-4 : tie.Need-returns-4
 unfolding afterwards
-returns-4 c = (energy-wrong _ _ _ (c .before .before .before .if1 .left) (c .before .before .if2 .left) (c .before .if3 .left) (c .if4 .taken), refl)
+returns-4 c = record { answer = energy-wrong _ _ _ (c .before .before .before .if1 .left) (c .before .before .if2 .left) (c .before .if3 .left) (c .if4 .taken); contents = refl }
 
 each-at-most-u32-requires : tie.Need-each-at-most-u32-requires
 each-at-most-u32-requires c κs = search needs
@@ -67,7 +67,7 @@ returns-5 : tie.Need-returns-5
 unfolding afterwards
 returns-5 c =
     let judged = c .before .before in
-    (weights-stop (shaped (judged .before)) (judged .each-at-most-u32 .ensures) (c .enum-told2 .given .1), unwritten _ _ (c .enum-told2 .given .1))
+    record { answer = weights-stop (shaped (judged .before)) (judged .each-at-most-u32 .ensures) (c .enum-told2 .given .1); contents = unwritten _ _ (c .enum-told2 .given .1) }
 
 total-requires : tie.Need-total-requires
 total-requires c κs = search needs
@@ -85,7 +85,7 @@ returns-6 : tie.Need-returns-6
 unfolding afterwards
 returns-6 c =
     let followed = c .before .before in
-    (follow-stop (summed (followed .before)) (followed .followed-by .ensures) (c .enum-told4 .given .1), unwritten _ _ (c .enum-told4 .given .1))
+    record { answer = follow-stop (summed (followed .before)) (followed .followed-by .ensures) (c .enum-told4 .given .1); contents = unwritten _ _ (c .enum-told4 .given .1) }
 
 spread-requires : tie.Need-spread-requires
 spread-requires c κs =
@@ -101,7 +101,7 @@ returns-7 c =
     let passed = last-passed c in
     let followed = passed .before .before in
     let known = summed (followed .before) in
-    (all-pass known (followed .followed-by .ensures) (passed .enum-told3 .given .1), core-gives known (c .before .before .spread .ensures))
+    record { answer = all-pass known (followed .followed-by .ensures) (passed .enum-told3 .given .1); contents = core-gives known (c .before .before .spread .ensures) }
 
 pub periodisation-spec : {M : Type 1} → statement M
 periodisation-spec =

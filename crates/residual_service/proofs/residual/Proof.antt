@@ -17,11 +17,11 @@ enum-told-2 : tie.Need-enum-told-2
 enum-told-2 c = search needs
 
 returns : tie.Need-returns
-returns c = (
-  pass-refuses _ (c .before .before .residual-shape .ensures) (c .enum-told2 .given .1)
-      ∙ in-parts _ _ _ _ _ _,
-  unwritten _ _ (c .enum-told2 .given .1),
-)
+returns c = record {
+  answer = pass-refuses _ (c .before .before .residual-shape .ensures) (c .enum-told2 .given .1)
+      ∙ in-parts _ _ _ _ _ _;
+  contents = unwritten _ _ (c .enum-told2 .given .1);
+}
 
 flows-in-range-requires : tie.Need-flows-in-range-requires
 flows-in-range-requires c κs = search needs
@@ -34,12 +34,12 @@ enum-told-4 c = search needs
 
 returns-2 : tie.Need-returns-2
 returns-2 c =
-    let c1 = c .before .before .before in (
-      pass-accepts _ (c1 .before .before .residual-shape .ensures) (c1 .enum-told .given .1)
+    let c1 = c .before .before .before in record {
+      answer = pass-accepts _ (c1 .before .before .residual-shape .ensures) (c1 .enum-told .given .1)
           (pass-refuses _ (c .before .before .flows-in-range .ensures) (c .enum-told4 .given .1))
-          ∙ in-parts _ _ _ _ _ _,
-      unwritten _ _ (c .enum-told4 .given .1),
-    )
+          ∙ in-parts _ _ _ _ _ _;
+      contents = unwritten _ _ (c .enum-told4 .given .1);
+    }
 
 silent-hours-requires : tie.Need-silent-hours-requires
 silent-hours-requires c κs =
@@ -56,13 +56,13 @@ enum-told-6 c = search needs
 returns-3 : tie.Need-returns-3
 returns-3 c =
     let c2 = c .before .before .before in
-    let c1 = c2 .before .before .before in (
-      pass-accepts _ (c1 .before .before .residual-shape .ensures) (c1 .enum-told .given .1)
+    let c1 = c2 .before .before .before in record {
+      answer = pass-accepts _ (c1 .before .before .residual-shape .ensures) (c1 .enum-told .given .1)
           (pass-accepts _ (c2 .before .before .flows-in-range .ensures) (c2 .enum-told3 .given .1)
           (pass-refuses _ (c .before .before .silent-hours .ensures) (c .enum-told6 .given .1)))
-          ∙ in-parts _ _ _ _ _ _,
-      unwritten _ _ (c .enum-told6 .given .1),
-    )
+          ∙ in-parts _ _ _ _ _ _;
+      contents = unwritten _ _ (c .enum-told6 .given .1);
+    }
 
 judge-hours-requires : tie.Need-judge-hours-requires
 judge-hours-requires c κs =
@@ -84,14 +84,14 @@ returns-4 : tie.Need-returns-4
 returns-4 c =
     let c3 = c .before .before .before in
     let c2 = c3 .before .before .before in
-    let c1 = c2 .before .before .before in (
-      pass-accepts _ (c1 .before .before .residual-shape .ensures) (c1 .enum-told .given .1)
+    let c1 = c2 .before .before .before in record {
+      answer = pass-accepts _ (c1 .before .before .residual-shape .ensures) (c1 .enum-told .given .1)
           (pass-accepts _ (c2 .before .before .flows-in-range .ensures) (c2 .enum-told3 .given .1)
           (pass-accepts _ (c3 .before .before .silent-hours .ensures) (c3 .enum-told5 .given .1)
           (pass-refuses _ (c .before .before .judge-hours .ensures) (c .enum-told8 .given .1))))
-          ∙ in-parts _ _ _ _ _ _,
-      unwritten _ _ (c .enum-told8 .given .1),
-    )
+          ∙ in-parts _ _ _ _ _ _;
+      contents = unwritten _ _ (c .enum-told8 .given .1);
+    }
 
 write-residuals-requires : tie.Need-write-residuals-requires
 write-residuals-requires c κs =
@@ -118,15 +118,15 @@ returns-5 c =
     let c4 = c .before .before .before .before in
     let c3 = c4 .before .before .before in
     let c2 = c3 .before .before .before in
-    let c1 = c2 .before .before .before in (
-      pass-accepts _ (c1 .before .before .residual-shape .ensures) (c1 .enum-told .given .1)
+    let c1 = c2 .before .before .before in record {
+      answer = pass-accepts _ (c1 .before .before .residual-shape .ensures) (c1 .enum-told .given .1)
           (pass-accepts _ (c2 .before .before .flows-in-range .ensures) (c2 .enum-told3 .given .1)
           (pass-accepts _ (c3 .before .before .silent-hours .ensures) (c3 .enum-told5 .given .1)
           (pass-accepts _ (c4 .before .before .judge-hours .ensures) (c4 .enum-told7 .given .1)
           none-left)))
-          ∙ in-parts _ _ _ _ _ _,
-      c .before .before .write-residuals .ensures,
-    )
+          ∙ in-parts _ _ _ _ _ _;
+      contents = c .before .before .write-residuals .ensures;
+    }
 
 pub residual-spec : {M : Type 1} → statement M
 residual-spec =

@@ -3,7 +3,7 @@ use mathlib.Core.Path.{_∙_, subst}
 use lib.IntN.{ℤ}
 use mir.Facts.{toZ-ofZ}
 use mir.Syntax.{w64}
-use Rattle.reconcile_service.proofs.Unique.{Promised}
+use Rattle.reconcile_service.specs.Told.{Promised}
 use Rattle.settle_c.proofs.Hour.{loss-given, loss-kept, code-given, code-refused, lists-left}
 use borrow.Author.Needs.{needs}
 use Rattle.settle_c.proofs.settle_reconciliation.Statement.{statement}
@@ -24,12 +24,7 @@ promised c =
     Promised (a .residual-wh) (a .distributed-wh .now) (a .periodised-wh .now) (a .carrier) price (a .differences-wh .now)
     (a .amounts-millionths .now) (c .reconciliation .result) (lists .0) (lists .1 .0))
     (toZ-ofZ (c .before .before .before .before .fits .price-ore))
-    (record {
-      answers = c .reconciliation .ensures .0;
-      tells = c .reconciliation .ensures .1 .0;
-      holds-differences = c .reconciliation .ensures .1 .1 .0;
-      holds-amounts = c .reconciliation .ensures .1 .1 .1;
-    })
+    (c .reconciliation .ensures)
 
 reconciliation-requires : tie.Need-reconciliation-requires
 reconciliation-requires c κs = search needs
@@ -52,7 +47,12 @@ same-length-2 c = search needs
 returns : tie.Need-returns
 returns c =
     let p = promised (c .before .before .before .before .before) in
-    (code-given p (c .before .answered .given .1), (toZ-ofZ {w = w64} (search needs) ∙ loss-given p _ (c .before .answered .given .1), lists-left p))
+    record {
+      answer = code-given p (c .before .answered .given .1);
+      holds-loss = toZ-ofZ {w = w64} (search needs) ∙ loss-given p _ (c .before .answered .given .1);
+      holds-differences = lists-left p .0;
+      holds-amounts = lists-left p .1;
+    }
 
 same-length-3 : tie.Need-same-length-3
 same-length-3 c = search needs
@@ -63,7 +63,12 @@ same-length-4 c = search needs
 returns-2 : tie.Need-returns-2
 returns-2 c =
     let p = promised (c .before .before .before .before .before .before) in
-    (code-refused p (c .before .before .answered2 .given .1) (c .code .ensures), (loss-kept p _ (c .before .before .answered2 .given .1), lists-left p))
+    record {
+      answer = code-refused p (c .before .before .answered2 .given .1) (c .code .ensures);
+      holds-loss = loss-kept p _ (c .before .before .answered2 .given .1);
+      holds-differences = lists-left p .0;
+      holds-amounts = lists-left p .1;
+    }
 
 pub settle-reconciliation-spec : {M : Type 1} → statement M
 settle-reconciliation-spec =

@@ -16,7 +16,7 @@ same-length c = search needs
 returns : tie.Need-returns
 returns c =
     let promised = c .before .before .before .residual .ensures in
-    (coded-by (c .code .ensures) (promised .0), left-by _ _ (promised .1) (promised .0))
+    record { answer = coded-by (c .code .ensures) (promised .answer); contents = left-by _ _ (promised .contents) (promised .answer) }
 
 pub settle-residual-spec : {M : Type 1} → statement M
 settle-residual-spec = tie.close (tie.spec residual-requires code-requires same-length returns)

@@ -1,38 +1,22 @@
--- No second result fits: the service's promise leaves one answer and one content of what it was lent. And what the service gives, of any result that meets
--- its promise: its figures add up to E where S is positive, and are 0 where E and S are.
+-- What the service gives, of any result that meets its promise: its figures add up to E where S is positive, and are 0 where E and S are.
 use mathlib.Core.List.{List}
 use mathlib.Core.Logic.{inr}
-use mathlib.Core.Path.{_≡_, sym, _∙_, ap}
+use mathlib.Core.Path.{_≡_, _∙_, ap}
 use Prim.Native.Nat.{ℕ, _<_}
 use lib.ListN.{length}
 use Rattle.answer.specs.Said.{said}
 use Rattle.answer.specs.declared.Answer.{Answer}
 use Rattle.answer.specs.declared.Answer.the-variants.{Done}
-use Rattle.answer.proofs.Said.{said-once}
+use Rattle.periodise_service.specs.Promised.{Promised}
 use Rattle.rules.specs.Periodised.{periodisedFigure}
-use Rattle.rules.specs.Refusals.{Verdict, first, afterwards}
-use Rattle.rules.specs.Services.{periodisationChecks, periodisationFigures}
+use Rattle.rules.specs.Refusals.{afterwards}
+use Rattle.rules.specs.Services.{periodisationFigures}
 use Rattle.rules.specs.Words.{sum, at}
 use Rattle.rules.proofs.Loops.{figures-at}
 use Rattle.rules.proofs.Periodised.{figures-add-up-to-E, nothing-over-nothing}
 use Rattle.rules.proofs.Sums.{sum-cong}
 
--- what `periodisation` promises of its answer and of the lent hours
-pub record Promised (e : ℕ) (weights before : List ℕ) (r : Answer) (after : List ℕ) : Type 0 where
-  pub answer : said r ≡ first (periodisationChecks e weights (length before))
-  pub contents : after ≡ afterwards (said r) (periodisationFigures e weights) before
-
-module _ {e : ℕ} {weights before : List ℕ} {r s : Answer} {after later : List ℕ} where
-  pub periodisation-once : Promised e weights before r after → Promised e weights before s later → (r ≡ s) × (after ≡ later)
-  periodisation-once p q = (
-    said-once r s same,
-    p .contents ∙ ap (λ (v : Verdict). afterwards v (periodisationFigures e weights) before) same ∙ sym (q .contents),
-  )
-    where
-      same : said r ≡ said s
-      same = p .answer ∙ sym (q .answer)
-
-module _ {e : ℕ} {weights before : List ℕ} {r : Answer} {after : List ℕ} (p : Promised e weights before r after) (done : r ≡ Done) where
+module _ (e : ℕ) (weights : List ℕ) {before : List ℕ} {r : Answer} {after : List ℕ} (p : Promised e weights before r after) (done : r ≡ Done) where
   given : after ≡ periodisationFigures e weights
   unfolding afterwards
   given = p .contents ∙ ap (λ (a : Answer). afterwards (said a) (periodisationFigures e weights) before) done

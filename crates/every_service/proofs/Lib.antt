@@ -1,0 +1,2 @@
+pub mod NoSecond
+pub mod NothingWritten

@@ -1,0 +1,57 @@
+-- The promises, each said once: a function's `ensures` cites it by its name, and so does what is proved of every service (`every_service`). Each is its service's,
+-- with a number for the answer; `settle_invoice_ore` promises what `reconcile::invoice_ore` does.
+use mathlib.Core.List.{List}
+use mathlib.Core.Path.{_≡_}
+use Prim.Native.Nat.{ℕ}
+use lib.IntN.{ℤ}
+use lib.ListN.{length}
+use Rattle.rules.specs.Refusals.{Verdict, first, afterwards}
+use Rattle.rules.specs.Services.{residualChecks, residualFigures, curveChecks, curveFigures, distributionChecks, distributionFigures}
+use Rattle.rules.specs.Services.{periodisationChecks, periodisationFigures, reconciliationChecks, reconciliationLoss, reconciliationDifferences, reconciliationAmounts}
+use Rattle.settle_c.specs.Coded.{coded, kept}
+
+-- a verdict's number, and what one lent list then holds
+pub record Numbered {A : Type 0} (verdict : Verdict) (figures lent : List A) (n : ℕ) (held : List A) : Type 0 where
+  pub answer : n ≡ coded verdict
+  pub contents : held ≡ afterwards verdict figures lent
+
+-- `settle_residual`
+abbrev pub ResidualPromised : List ℕ → List ℤ → List ℕ → List ℕ → List ℕ → List ℕ → ℕ → List ℕ → Type 0
+ResidualPromised statuses nets productions hourlies flexes lent =
+    Numbered (first (residualChecks statuses nets productions hourlies flexes (length lent)))
+    (residualFigures statuses nets productions hourlies flexes) lent
+
+-- `settle_curve`
+abbrev pub CurvePromised : List ℕ → ℕ → List ℕ → ℕ → List ℕ → Type 0
+CurvePromised residuals w lent = Numbered (first (curveChecks residuals w (length lent))) (curveFigures residuals w) lent
+
+-- `settle_distribution`
+abbrev pub DistributionPromised : List ℕ → List ℕ → List ℤ → ℕ → List ℤ → Type 0
+DistributionPromised shares residuals lent =
+    Numbered (first (distributionChecks shares residuals (length lent))) (distributionFigures shares residuals) lent
+
+-- `settle_periodisation`
+abbrev pub PeriodisationPromised : ℕ → List ℕ → List ℕ → ℕ → List ℕ → Type 0
+PeriodisationPromised e weights lent = Numbered (first (periodisationChecks e weights (length lent))) (periodisationFigures e weights) lent
+
+-- what the checks say of an hour
+abbrev pub hourVerdict : ℕ → List ℤ → List ℕ → ℕ → ℤ → List ℤ → List ℤ → Verdict
+hourVerdict residual distributed periodised carrier price differences amounts =
+    first (reconciliationChecks residual distributed periodised carrier price (length differences) (length amounts))
+
+-- `settle_reconciliation`: of its answer, the lent loss and the two lent lists
+pub record ReconciliationPromised
+    (residual : ℕ) (distributed : List ℤ) (periodised : List ℕ) (carrier : ℕ) (price : ℤ) (differences amounts : List ℤ) (loss : ℤ)
+    (n : ℕ) (differences′ amounts′ : List ℤ) (loss′ : ℤ) : Type 0 where
+  pub answer : n ≡ coded (hourVerdict residual distributed periodised carrier price differences amounts)
+  pub holds-loss :
+      loss′
+      ≡ kept (hourVerdict residual distributed periodised carrier price differences amounts) (reconciliationLoss residual periodised) loss
+  pub holds-differences :
+      differences′
+      ≡ afterwards (hourVerdict residual distributed periodised carrier price differences amounts)
+      (reconciliationDifferences residual distributed periodised carrier) differences
+  pub holds-amounts :
+      amounts′
+      ≡ afterwards (hourVerdict residual distributed periodised carrier price differences amounts)
+      (reconciliationAmounts (reconciliationDifferences residual distributed periodised carrier) price) amounts
