@@ -18,3 +18,6 @@ pub mod WorkedMonths
 pub mod WorkedServices
 pub mod Places
 pub mod RoundTrip
+pub mod ReadThrough
+pub mod WellFormed
+pub mod ReadingRefused

@@ -19,6 +19,7 @@ use Rattle.rules.specs.Record.{Heading, Party, Reading, Record, heading,
 use Rattle.rules.specs.Record.{cutInto, kindAt, recordAt, inFile, headingInRange, checks}
 use Rattle.rules.specs.Refusals.{fileFault, given, refusal, first}
 use Rattle.rules.specs.Limits.{longestFile}
+use Rattle.rules.specs.WellFormed.{asParty, asReading}
 use Rattle.rules.specs.Words.{at, within}
 use Rattle.rules.proofs.Whole.{Counts, Sound, before-the-heading, both-pass, heading-facts, step, nothing-is-sound, given-not-refusal, went-on, closed-gives}
 use Rattle.rules.proofs.Refusals.{accepted-exactly, unless-exactly}
@@ -70,13 +71,6 @@ priceOffset parties hours refixed k = 10 + 22 * parties + 36 * hours + 36 * refi
 abbrev pub readingOffset : ℕ → ℕ → ℕ → ℕ → ℕ
 readingOffset parties hours refixed k = 10 + 22 * parties + 36 * hours + 36 * refixed + 7 * hours + 10 * k
 
--- each record without the number that it need not be told
-abbrev asParty : ℕ → Party → Record
-asParty k p = party p
-
-abbrev asReading : ℕ → Reading → Record
-asReading k r = reading r
-
 -- What has been read so far of a file, up to an offset.
 pub record Placed (file : List ℕ) (m : MonthFile) (offset : ℕ) : Type 0 where
   pub at-start : H m ≡ 0 → offset ≡ 0
@@ -113,14 +107,14 @@ module _ {h p a f r q g : ℕ} (c : Counts h p a f r q g) where
   some-hours : 0 < p → 0 < h
   some-hours b = ⊎-elim (λ (z : h ≡ 0). absurd (omega (arith, c .headed z))) (λ (s : 0 < h). s) (eq-zero-or-pos h)
 
-  parties-due : a < p → (0 < h) × (f ≡ 0) × (r ≡ 0) × (q ≡ 0) × (g ≡ 0)
+  pub parties-due : a < p → (0 < h) × (f ≡ 0) × (r ≡ 0) × (q ≡ 0) × (g ≡ 0)
   parties-due b =
       let some : 0 < h = some-hours (omega arith) in
       let no-fixed : f ≡ 0 = none-of f (λ x. omega (arith, c .parties-first x)) in
       let no-prices : q ≡ 0 = none-of q (λ x. omega (arith, c .fixed-priced x)) in
       (some, no-fixed, none-of r (λ x. omega (arith, c .fixed-first x)), no-prices, none-of g (λ x. omega (arith, c .prices-first x .0)))
 
-  fixed-due : f < h → (r ≡ 0) × (q ≡ 0) × (g ≡ 0)
+  pub fixed-due : f < h → (r ≡ 0) × (q ≡ 0) × (g ≡ 0)
   fixed-due b =
       let no-prices : q ≡ 0 = none-of q (λ x. omega (arith, c .fixed-priced x)) in
       (none-of r (λ x. omega (arith, c .fixed-first x)), no-prices, none-of g (λ x. omega (arith, c .prices-first x .0)))
@@ -128,7 +122,7 @@ module _ {h p a f r q g : ℕ} (c : Counts h p a f r q g) where
   all-parties : f ≡ h → 0 < h → a ≡ p
   all-parties e b = c .parties-first (omega arith)
 
-  no-readings : q < h → g ≡ 0
+  pub no-readings : q < h → g ≡ 0
   no-readings b = none-of g (λ x. omega (arith, c .prices-first x .0))
 
   all-fixed : q ≡ h → 0 < h → f ≡ h

@@ -7,20 +7,21 @@ use mathlib.Core.Path.{_≡_, refl, _∙_, ap, subst}
 use Prim.Native.Nat.{ℕ, zero, suc, _+_, _≤_, _<_, zero-le}
 use native.Mathlib.Nat.{not-suc-le-zero, le-of-suc-le-suc, eq-zero-or-pos}
 use native.Mathlib.Omega.{arith}
-use borrow.Author.Tests.{ltb-true, leb-true, eqb-true}
+use borrow.Author.Tests.{ltb-true, leb-true, eqb-true, lt-ltb}
 use lib.Dec.{eqb, leb, ltb}
 use lib.IntN.{ℤ, pos, negsuc, natAbs}
 use lib.ListN.{length, getD, drop, length-append, length-drop}
 use Rattle.rules.specs.Accepted.{NoneRefuses}
 use Rattle.rules.specs.Flows.{Flows, flowsInRange, silentIsZero}
-use Rattle.rules.specs.Gln.{validGln}
+use Rattle.rules.specs.Gln.{validGln, rises, digitsOnto}
 use Rattle.rules.specs.Limits.{greatestArea, earliestYear, latestYear, monthsOfAYear, mostHours, mostParties, greatestShare, greatestEnergy, greatestPrice, longestFile}
-use Rattle.rules.specs.MonthFile.{MonthFile, nothingYet, H, P, due, recordChecks, with, isEnd, closed, onward, readOn, readMonth}
+use Rattle.rules.specs.MonthFile.{MonthFile, nothingYet, H, P, due, risesAfter, recordChecks, with, isEnd, closed, onward, readOn, readMonth}
 use Rattle.rules.specs.Record.{Heading, Party, Reading, Record, heading, party, fixedHour, reading, price, refixedHour, end, bodyLength, recordAt}
 use Rattle.rules.specs.Record.{inFile, headingInRange, hourInRange, checks}
 use Rattle.rules.specs.Refusals.{Refusal, fileFault, Verdict, accepted, refused, Answer, given, refusal, first}
 use Rattle.rules.specs.Words.{within, withinℤ}
 use Rattle.rules.proofs.Refusals.{accepted-exactly, unless-exactly}
+pub use Rattle.rules.specs.WellFormed.{Every, PartyRight, FlowsRight, PriceRight, ReadingRight, HeadingRight, Rising, Whole}
 
 -- Tests that are both passed.
 pub both-pass : (a b : Bool) → a && b ≡ true → (a ≡ true) × (b ≡ true)
@@ -44,11 +45,7 @@ within-size (suc most) (pos n) e = leb-true n (suc most) (both-pass true (leb n 
 within-size zero (negsuc n) e = absurd (let z : _≡_ {A = ℕ} 0 1 = cc in omega arith)
 within-size (suc most) (negsuc n) e = omega (arith, leb-true n most (both-pass (leb n most) true e .0))
 
--- Every member of a list is such.
-abbrev pub Every : {A : Type 0} → (A → Type 0) → List A → Type 0
-Every is [] = Unit
-Every is (x ∷ l) = is x × Every is l
-
+-- Every member of a list is such: one more, none, one of them.
 every-more : {A : Type 0} (is : A → Type 0) (l : List A) (x : A) → Every is l → is x → Every is (l ++ (x ∷ []))
 every-more is [] x h k = (k, tt)
 every-more is (y ∷ l) x h k = (h .0, every-more is l x (h .1) k)
@@ -65,22 +62,7 @@ every-at is (x ∷ l) h (suc i) d b = every-at is l (h .1) i d (le-of-suc-le-suc
 one-more : {A : Type 0} (l : List A) (x : A) → length (l ++ (x ∷ [])) ≡ suc (length l)
 one-more l x = length-append l (x ∷ []) ∙ omega arith
 
--- What the rule of its fields says of each kind.
-abbrev pub PartyRight : Party → Type 0
-PartyRight p = (p .share ≤ greatestShare) × (validGln (p .gln) ≡ true)
-
-abbrev pub FlowsRight : Flows → Type 0
-FlowsRight f = (flowsInRange f ≡ true) × (silentIsZero f ≡ true)
-
-abbrev pub PriceRight : ℤ → Type 0
-PriceRight z = withinℤ greatestPrice z ≡ true
-
-abbrev pub ReadingRight : ℕ → ℕ → Reading → Type 0
-ReadingRight hours parties r = (r .party < parties) × (r .a < r .b) × (r .b ≤ hours) × (r .e ≤ greatestEnergy)
-
-abbrev pub HeadingRight : Heading → Type 0
-HeadingRight h = headingInRange h ≡ true
-
+-- What the rule of its fields says of a heading.
 pub record HeadingFacts (h : Heading) : Type 0 where
   pub area : (1 ≤ h .area) × (h .area ≤ greatestArea)
   pub year : (earliestYear ≤ h .year) × (h .year ≤ latestYear)
@@ -110,6 +92,32 @@ heading-facts h e =
       parties = within-is 1 mostParties (h .parties) (t4 .1);
       carrier = ltb-true (h .carrier) (h .parties) (t5 .1);
     }
+
+-- GLNs THAT RISE: above the last of some that rise is above them all.
+abbrev Above : Party → Party → Type 0
+Above p q = rises (p .gln) (q .gln) ≡ true
+
+above-too : (p q r : Party) → Above p q → Above q r → Above p r
+unfolding rises
+above-too p q r a b =
+    let n = digitsOnto 0 (p .gln) in
+    let k = digitsOnto 0 (r .gln) in
+    lt-ltb n k (omega (arith, ltb-true n (digitsOnto 0 (q .gln)) a, ltb-true (digitsOnto 0 (q .gln)) k b))
+
+above-all : (l : List Party) (p : Party) → Rising l → risesAfter l p ≡ true → Every (λ (q : Party). Above q p) l
+unfolding risesAfter
+above-all [] p h e = tt
+above-all (q ∷ []) p h e = (e, tt)
+above-all (q ∷ (q′ ∷ l)) p h e =
+    let later : Every (λ (x : Party). Above x p) (q′ ∷ l) = above-all (q′ ∷ l) p (h .1) e in
+    (above-too q q′ p (h .0 .0) (later .0), later)
+
+one-above : (l : List Party) (p : Party) → Rising l → Every (λ (q : Party). Above q p) l → Rising (l ++ (p ∷ []))
+one-above [] p h a = (tt, tt)
+one-above (q ∷ l) p h a = (every-more (Above q) l p (h .0) (a .0), one-above l p (h .1) (a .1))
+
+rising-more : (l : List Party) (p : Party) → Rising l → risesAfter l p ≡ true → Rising (l ++ (p ∷ []))
+rising-more l p h e = one-above l p h (above-all l p h e)
 
 -- How many of each kind there are, of a file of h hours and p parties: a parties, f fixed and r refixed hours, q prices, g readings.
 pub record Counts (h p a f r q g : ℕ) : Type 0 where
@@ -243,19 +251,7 @@ pub record Sound (m : MonthFile) : Type 0 where
   pub counts : Counts (H m) (P m) (length (m .parties)) (length (m .fixed)) (length (m .refixed)) (length (m .prices)) (length (m .readings))
   pub head : 0 < H m → HeadingRight (m .heading)
   pub parties : Every PartyRight (m .parties)
-  pub fixed : Every FlowsRight (m .fixed)
-  pub refixed : Every FlowsRight (m .refixed)
-  pub prices : Every PriceRight (m .prices)
-  pub readings : Every (ReadingRight (H m) (P m)) (m .readings)
-
--- The month that a whole file gives.
-pub record Whole (m : MonthFile) : Type 0 where
-  pub head : HeadingRight (m .heading)
-  pub all-parties : length (m .parties) ≡ P m
-  pub all-fixed : length (m .fixed) ≡ H m
-  pub none-or-all-refixed : (length (m .refixed) ≡ 0) ⊎ (length (m .refixed) ≡ H m)
-  pub all-prices : length (m .prices) ≡ H m
-  pub parties : Every PartyRight (m .parties)
+  pub rising : Rising (m .parties)
   pub fixed : Every FlowsRight (m .fixed)
   pub refixed : Every FlowsRight (m .refixed)
   pub prices : Every PriceRight (m .prices)
@@ -264,7 +260,7 @@ pub record Whole (m : MonthFile) : Type 0 where
 pub nothing-is-sound : Sound nothingYet
 unfolding nothingYet H P
 nothing-is-sound =
-    record { counts = nothing-counted; head = λ x. absurd (omega arith); parties = tt; fixed = tt; refixed = tt; prices = tt; readings = tt }
+    record { counts = nothing-counted; head = λ x. absurd (omega arith); parties = tt; rising = tt; fixed = tt; refixed = tt; prices = tt; readings = tt }
 
 -- One record that is due and passes its checks keeps the month sound.
 module _ (m : MonthFile) (s : Sound m) (n : ℕ) where
@@ -280,6 +276,7 @@ module _ (m : MonthFile) (s : Sound m) (n : ℕ) where
         counts = simp (none .0, none .1, none .2, none .3, none .4) (none-counted (heading-facts h right .hours .0));
         head = λ x. right;
         parties = s .parties;
+        rising = s .rising;
         fixed = s .fixed;
         refixed = s .refixed;
         prices = s .prices;
@@ -295,6 +292,7 @@ module _ (m : MonthFile) (s : Sound m) (n : ℕ) where
         counts = rw (one-more (m .parties) p) (one-party (s .counts) (ltb-true (length (m .parties)) (m .heading .parties) d));
         head = s .head;
         parties = every-more PartyRight (m .parties) p (s .parties) (share, valid);
+        rising = rising-more (m .parties) p (s .rising) (unless-exactly (risesAfter (m .parties) p) _ _ .0 (c .1 .1 .0));
         fixed = s .fixed;
         refixed = s .refixed;
         prices = s .prices;
@@ -317,6 +315,7 @@ module _ (m : MonthFile) (s : Sound m) (n : ℕ) where
         counts = rw (one-more (m .fixed) f) (one-fixed (s .counts) all (ltb-true (length (m .fixed)) (H m) (tests .1)));
         head = s .head;
         parties = s .parties;
+        rising = s .rising;
         fixed = every-more FlowsRight (m .fixed) f (s .fixed) right;
         refixed = s .refixed;
         prices = s .prices;
@@ -335,6 +334,7 @@ module _ (m : MonthFile) (s : Sound m) (n : ℕ) where
         counts = rw (one-more (m .refixed) f) (one-refixed (s .counts) all more (eqb-true (length (m .prices)) 0 (outer .1)));
         head = s .head;
         parties = s .parties;
+        rising = s .rising;
         fixed = s .fixed;
         refixed = every-more FlowsRight (m .refixed) f (s .refixed) right;
         prices = s .prices;
@@ -360,6 +360,7 @@ module _ (m : MonthFile) (s : Sound m) (n : ℕ) where
         counts = rw (one-more (m .prices) z) (one-price (s .counts) all (none-or-all (inner .1)) more);
         head = s .head;
         parties = s .parties;
+        rising = s .rising;
         fixed = s .fixed;
         refixed = s .refixed;
         prices = every-more PriceRight (m .prices) z (s .prices) right;
@@ -384,6 +385,7 @@ module _ (m : MonthFile) (s : Sound m) (n : ℕ) where
         counts = rw (one-more (m .readings) r) (one-reading (s .counts) all (leb-true 1 (H m) (tests .0)));
         head = s .head;
         parties = s .parties;
+        rising = s .rising;
         fixed = s .fixed;
         refixed = s .refixed;
         prices = s .prices;
@@ -408,6 +410,7 @@ module _ (m : MonthFile) (s : Sound m) where
         none-or-all-refixed = refixed;
         all-prices = all;
         parties = s .parties;
+        rising = s .rising;
         fixed = s .fixed;
         refixed = s .refixed;
         prices = s .prices;

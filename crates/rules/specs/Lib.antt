@@ -33,6 +33,8 @@ pub mod Reconciliation
 pub mod Gln
 pub mod Record
 pub mod MonthFile
+pub mod WellFormed
+pub mod ReadingRefused
 pub mod Month
 pub mod Services
 pub mod Statement
