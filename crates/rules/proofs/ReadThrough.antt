@@ -29,9 +29,6 @@ use Rattle.rules.proofs.RoundTrip.{CountHeld, record-back, kind-back, r
 use Rattle.rules.proofs.Whole.{Sound, nothing-is-sound, heading-facts, both-pass, within-is, step, bound-is-enough}
 
 -- IN A FILE AND ALONE: a record without fault in a file is one without fault alone, since no file has more hours or parties than a record alone may have
-elsewhere : (test : Bool) (r : Refusal) (place : ℕ) → unless test r place ≡ accepted → unless test r 0 ≡ accepted
-elsewhere test r place e = unless-exactly test r 0 .1 (unless-exactly test r place .0 e)
-
 module _ (m : MonthFile) (s : Sound m) where
   few-hours : H m ≤ mostHours
   unfolding H
@@ -51,23 +48,28 @@ module _ (m : MonthFile) (s : Sound m) where
       rw (lt-ltb hour mostHours (omega (arith, few-hours, ltb-true hour (H m) (inner .0))), inner .1, outer .1)
 
   alone-too : (n : ℕ) (r : Record) → NoneRefuses (checks (inFile m n) r) → NoneRefuses (checks alone r)
-  unfolding checks
-  alone-too n (heading h) c = (elsewhere (headingInRange h) _ n (c .0), tt)
-  alone-too n (party p) c = (elsewhere (leb (p .share) greatestShare) _ n (c .0), (elsewhere (validGln (p .gln)) _ n (c .1 .0), (unless-exactly true _ _ .1 refl, tt)))
-  alone-too n (fixedHour hour f) c = (unless-exactly _ _ _ .1 (hour-alone hour f (unless-exactly (hourInRange (H m) hour f) _ _ .0 (c .0))), tt)
-  alone-too n (refixedHour hour f) c = (unless-exactly _ _ _ .1 (hour-alone hour f (unless-exactly (hourInRange (H m) hour f) _ _ .0 (c .0))), tt)
+  unfolding checks first andThen unless
+  alone-too n (heading h) c = accepted-exactly (checks alone (heading h)) .0 (rw (unless-exactly (headingInRange h) _ _ .0 (c .0)))
+  alone-too n (party p) c =
+      let share : leb (p .share) greatestShare ≡ true = unless-exactly (leb (p .share) greatestShare) _ _ .0 (c .0) in
+      let valid : validGln (p .gln) ≡ true = unless-exactly (validGln (p .gln)) _ _ .0 (c .1 .0) in
+      accepted-exactly (checks alone (party p)) .0 (rw (share, valid))
+  alone-too n (fixedHour hour f) c =
+      accepted-exactly (checks alone (fixedHour hour f)) .0 (rw (hour-alone hour f (unless-exactly (hourInRange (H m) hour f) _ _ .0 (c .0))))
+  alone-too n (refixedHour hour f) c =
+      accepted-exactly (checks alone (refixedHour hour f)) .0 (rw (hour-alone hour f (unless-exactly (hourInRange (H m) hour f) _ _ .0 (c .0))))
   alone-too n (reading r) c =
       let whose : r .party < P m = ltb-true (r .party) (P m) (unless-exactly (ltb (r .party) (P m)) _ _ .0 (c .0)) in
       let span = both-pass (ltb (r .a) (r .b)) (leb (r .b) (H m)) (unless-exactly (ltb (r .a) (r .b) && leb (r .b) (H m)) _ _ .0 (c .1 .0)) in
-      let short : leb (r .b) mostHours ≡ true = le-leb (r .b) mostHours (omega (arith, few-hours, leb-true (r .b) (H m) (span .1))) in (
-        unless-exactly _ _ _ .1 (lt-ltb (r .party) mostParties (omega (arith, few-parties))),
-        (unless-exactly _ _ _ .1 (rw (span .0, short)), (elsewhere (leb (r .e) greatestEnergy) _ n (c .1 .1 .0), tt)),
-      )
+      let its-party : ltb (r .party) mostParties ≡ true = lt-ltb (r .party) mostParties (omega (arith, few-parties)) in
+      let early : leb (r .b) mostHours ≡ true = le-leb (r .b) mostHours (omega (arith, few-hours, leb-true (r .b) (H m) (span .1))) in
+      let energy : leb (r .e) greatestEnergy ≡ true = unless-exactly (leb (r .e) greatestEnergy) _ _ .0 (c .1 .1 .0) in
+      accepted-exactly (checks alone (reading r)) .0 (rw (its-party, span .0, early, energy))
   alone-too n (price hour p) c =
       let range = both-pass (ltb hour (H m)) (withinℤ greatestPrice p) (unless-exactly (ltb hour (H m) && withinℤ greatestPrice p) _ _ .0 (c .0)) in
       let early : ltb hour mostHours ≡ true = lt-ltb hour mostHours (omega (arith, few-hours, ltb-true hour (H m) (range .0))) in
-      (unless-exactly _ _ _ .1 (rw (early, range .1)), tt)
-  alone-too n (end count) c = (unless-exactly true _ _ .1 refl, tt)
+      accepted-exactly (checks alone (price hour p)) .0 (rw (early, range .1))
+  alone-too n (end count) c = (refl, tt)
 
 -- ALL BYTES FROM A RECORD ON
 

@@ -22,7 +22,7 @@ use Rattle.rules.specs.Words.{within}
 use Rattle.rules.proofs.Places.{parties-due, fixed-due, no-readings}
 use Rattle.rules.proofs.ReadThrough.{true-not-false, readFrom, Stop, nothing-left, check-refuses, right-end, answerAt, Course, file-course, answer-of-course}
 use Rattle.rules.proofs.Refusals.{accepted-exactly, unless-exactly}
-use Rattle.rules.proofs.Whole.{Sound, nothing-is-sound, heading-facts, both-pass, within-is, step, given-not-refusal, what-is-read-is-whole}
+use Rattle.rules.proofs.Whole.{Sound, nothing-is-sound, heading-facts, both-pass, within-is, rises-strictly, step, given-not-refusal, what-is-read-is-whole}
 
 -- WHAT PASSES IS A MONTH'S RECORDS: where a record is due, the sections after its own are still empty, so it is the next of the month's records
 
@@ -208,7 +208,7 @@ not-the-last done x later e size = omega (arith, ap length e, length-append done
 rises-there : (done : List Party) (x : Party) (later : List Party) → Rising (done ++ (x ∷ later)) → risesAfter done x ≡ true
 unfolding risesAfter
 rises-there [] x later h = refl
-rises-there (q ∷ []) x later h = h .0 .0
+rises-there (q ∷ []) x later h = rises-strictly (q .gln) (x .gln) .1 (h .0 .0)
 rises-there (q ∷ (q′ ∷ done)) x later h = rises-there (q′ ∷ done) x later (h .1)
 
 either-way : (a : Bool) {b : Bool} → b ≡ true → a || b ≡ true

@@ -2,10 +2,10 @@
 -- that is due and right keeps what has been read so far `Sound`, and where the end record is due a sound month is `Whole`.
 use mathlib.Core.Bool.{Bool, true, false, cond, _&&_, _||_}
 use mathlib.Core.List.{List, [], _∷_, _++_}
-use mathlib.Core.Logic.{_⊎_, inl, inr, ⊎-elim}
+use mathlib.Core.Logic.{_⊎_, _↔_, inl, inr, ⊎-elim}
 use mathlib.Core.Path.{_≡_, refl, _∙_, ap, subst}
 use Prim.Native.Nat.{ℕ, zero, suc, _+_, _≤_, _<_, zero-le}
-use native.Mathlib.Nat.{not-suc-le-zero, le-of-suc-le-suc, eq-zero-or-pos}
+use native.Mathlib.Nat.{not-suc-le-zero, le-of-suc-le-suc, eq-zero-or-pos, lt-trans}
 use native.Mathlib.Omega.{arith}
 use borrow.Author.Tests.{ltb-true, leb-true, eqb-true, lt-ltb}
 use lib.Dec.{eqb, leb, ltb}
@@ -21,7 +21,7 @@ use Rattle.rules.specs.Record.{inFile, headingInRange, hourInRange, chec
 use Rattle.rules.specs.Refusals.{Refusal, fileFault, Verdict, accepted, refused, Answer, given, refusal, first}
 use Rattle.rules.specs.Words.{within, withinℤ}
 use Rattle.rules.proofs.Refusals.{accepted-exactly, unless-exactly}
-pub use Rattle.rules.specs.WellFormed.{Every, PartyRight, FlowsRight, PriceRight, ReadingRight, HeadingRight, Rising, Whole}
+pub use Rattle.rules.specs.WellFormed.{Every, PartyRight, FlowsRight, PriceRight, ReadingRight, HeadingRight, Below, Rising, Whole}
 
 -- Tests that are both passed.
 pub both-pass : (a b : Bool) → a && b ≡ true → (a ≡ true) × (b ≡ true)
@@ -93,28 +93,22 @@ heading-facts h e =
       carrier = ltb-true (h .carrier) (h .parties) (t5 .1);
     }
 
--- GLNs THAT RISE: above the last of some that rise is above them all.
-abbrev Above : Party → Party → Type 0
-Above p q = rises (p .gln) (q .gln) ≡ true
-
-above-too : (p q r : Party) → Above p q → Above q r → Above p r
+-- GLNs THAT RISE: what is above the last of some that rise is above them all.
+pub rises-strictly : (earlier later : List ℕ) → (rises earlier later ≡ true) ↔ (digitsOnto 0 earlier < digitsOnto 0 later)
 unfolding rises
-above-too p q r a b =
-    let n = digitsOnto 0 (p .gln) in
-    let k = digitsOnto 0 (r .gln) in
-    lt-ltb n k (omega (arith, ltb-true n (digitsOnto 0 (q .gln)) a, ltb-true (digitsOnto 0 (q .gln)) k b))
+rises-strictly earlier later = (ltb-true (digitsOnto 0 earlier) (digitsOnto 0 later), lt-ltb (digitsOnto 0 earlier) (digitsOnto 0 later))
 
-above-all : (l : List Party) (p : Party) → Rising l → risesAfter l p ≡ true → Every (λ (q : Party). Above q p) l
+above-all : (l : List Party) (p : Party) → Rising l → risesAfter l p ≡ true → Every (λ (q : Party). Below q p) l
 unfolding risesAfter
 above-all [] p h e = tt
-above-all (q ∷ []) p h e = (e, tt)
+above-all (q ∷ []) p h e = (rises-strictly (q .gln) (p .gln) .0 e, tt)
 above-all (q ∷ (q′ ∷ l)) p h e =
-    let later : Every (λ (x : Party). Above x p) (q′ ∷ l) = above-all (q′ ∷ l) p (h .1) e in
-    (above-too q q′ p (h .0 .0) (later .0), later)
+    let later : Every (λ (x : Party). Below x p) (q′ ∷ l) = above-all (q′ ∷ l) p (h .1) e in
+    (lt-trans (h .0 .0) (later .0), later)
 
-one-above : (l : List Party) (p : Party) → Rising l → Every (λ (q : Party). Above q p) l → Rising (l ++ (p ∷ []))
+one-above : (l : List Party) (p : Party) → Rising l → Every (λ (q : Party). Below q p) l → Rising (l ++ (p ∷ []))
 one-above [] p h a = (tt, tt)
-one-above (q ∷ l) p h a = (every-more (Above q) l p (h .0) (a .0), one-above l p (h .1) (a .1))
+one-above (q ∷ l) p h a = (every-more (Below q) l p (h .0) (a .0), one-above l p (h .1) (a .1))
 
 rising-more : (l : List Party) (p : Party) → Rising l → risesAfter l p ≡ true → Rising (l ++ (p ∷ []))
 rising-more l p h e = one-above l p h (above-all l p h e)

@@ -8,7 +8,7 @@ use Prim.Native.Nat.{ℕ, suc, _≤_, _<_}
 use lib.IntN.{ℤ}
 use lib.ListN.{length, getD}
 use Rattle.rules.specs.Flows.{Flows, flowsInRange, silentIsZero}
-use Rattle.rules.specs.Gln.{validGln, rises}
+use Rattle.rules.specs.Gln.{validGln, digitsOnto}
 use Rattle.rules.specs.Limits.{greatestShare, greatestEnergy, greatestPrice, longestFile}
 use Rattle.rules.specs.Record.{Heading, Party, Reading, Record, heading, party, fixedHour, reading, price, refixedHour, end, recordBytes, MonthFile, H, P, headingInRange}
 use Rattle.rules.specs.Words.{withinℤ}
@@ -75,10 +75,14 @@ PriceRight z = withinℤ greatestPrice z ≡ true
 abbrev pub ReadingRight : ℕ → ℕ → Reading → Type 0
 ReadingRight hours parties r = (r .party < parties) × (r .a < r .b) × (r .b ≤ hours) × (r .e ≤ greatestEnergy)
 
+-- the GLN of one party is below that of another, both read as numbers
+abbrev pub Below : Party → Party → Type 0
+Below p q = digitsOnto 0 (p .gln) < digitsOnto 0 (q .gln)
+
 -- "GLNs rise strictly.": each party's is below those of all the parties after it
 abbrev pub Rising : List Party → Type 0
 Rising [] = Unit
-Rising (p ∷ later) = Every (λ (q : Party). rises (p .gln) (q .gln) ≡ true) later × Rising later
+Rising (p ∷ later) = Every (Below p) later × Rising later
 
 -- all the records that the heading announces, each within its rules
 pub record Whole (m : MonthFile) : Type 0 where
