@@ -19,5 +19,6 @@ pub mod WorkedServices
 pub mod Places
 pub mod RoundTrip
 pub mod ReadThrough
+pub mod MonthRecords
 pub mod WellFormed
 pub mod ReadingRefused

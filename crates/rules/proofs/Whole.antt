@@ -1,5 +1,5 @@
--- What is read is whole: a file that is read through to its end record has the records that its heading announces, each within its ranges. Each record
--- that is due and right keeps what has been read so far `Sound`, and where the end record is due a sound month is `Whole`.
+-- What is read is whole (specs/WellFormed): a file that is read through to its end record has the records that its heading announces, each within its rules.
+-- Each record that is due and right keeps what has been read so far `Sound`, and where the end record is due a sound month is `Whole`.
 use mathlib.Core.Bool.{Bool, true, false, cond, _&&_, _||_}
 use mathlib.Core.List.{List, [], _∷_, _++_}
 use mathlib.Core.Logic.{_⊎_, _↔_, inl, inr, ⊎-elim}
@@ -465,14 +465,19 @@ read-on-whole (suc more) (kind ∷ body) n m s {m′} e =
     (λ s″. read-on-whole more (drop (bodyLength kind) body) (suc n) (with m r) s″)
     (on .1)
 
-of-the-right-length : (fits : Bool) (bytes : List ℕ) {m : MonthFile} → cond fits (readOn (length bytes) bytes 0 nothingYet) (refusal fileFault 0) ≡ given m → Whole m
-of-the-right-length true bytes e = read-on-whole (length bytes) bytes 0 nothingYet nothing-is-sound e
-of-the-right-length false bytes e = absurd (given-not-refusal e)
+length-passed : (fits : Bool) (read : Answer MonthFile) {m : MonthFile} → cond fits read (refusal fileFault 0) ≡ given m → (fits ≡ true) × (read ≡ given m)
+length-passed true read e = (refl, e)
+length-passed false read e = absurd (given-not-refusal e)
+
+-- a file that is read has the right length, and is read record by record
+pub of-the-right-length : (bytes : List ℕ) {m : MonthFile} → readMonth bytes ≡ given m
+    → (within 1 longestFile (length bytes) ≡ true) × (readOn (length bytes) bytes 0 nothingYet ≡ given m)
+unfolding readMonth
+of-the-right-length bytes e = length-passed (within 1 longestFile (length bytes)) (readOn (length bytes) bytes 0 nothingYet) e
 
 -- WHAT IS READ IS WHOLE.
 pub what-is-read-is-whole : (bytes : List ℕ) {m : MonthFile} → readMonth bytes ≡ given m → Whole m
-unfolding readMonth
-what-is-read-is-whole bytes e = of-the-right-length (within 1 longestFile (length bytes)) bytes e
+what-is-read-is-whole bytes e = read-on-whole (length bytes) bytes 0 nothingYet nothing-is-sound (of-the-right-length bytes e .1)
 
 -- THE BOUND OF `readOn` IS ENOUGH: from the number of bytes on, it does not matter how large it is
 pub bound-is-enough : (a b : ℕ) (bytes : List ℕ) (n : ℕ) (m : MonthFile) → length bytes ≤ a → length bytes ≤ b → readOn a bytes n m ≡ readOn b bytes n m
