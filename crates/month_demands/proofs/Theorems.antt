@@ -7,7 +7,7 @@ use Prim.Native.Nat.{ℕ, _<_}
 use native.Mathlib.Nat.{zero-add}
 use lib.IntN.{ℤ, pos}
 use lib.ListN.{length}
-use Rattle.month_demands.specs.Demands.{Outputs, Kept, placesRight, NoRefusalApplies, RefusalApplies, of-reading, of-the-month, of-the-lent, MonthMeets}
+use Rattle.month_demands.specs.Demands.{Outputs, Kept, placesRight, FileOf, NoRefusalApplies, RefusalApplies, of-reading, of-the-month, of-the-lent, MonthMeets}
 use Rattle.month_sums.specs.Told.{summaryOf, verdict, told, settleVerdict}
 use Rattle.month_sums.specs.declared.Settlement.{Settlement}
 use Rattle.month_sums.specs.declared.Settlement.the-variants.{Settled, Refused}
@@ -21,13 +21,16 @@ use Rattle.rules.specs.MonthFile.{MonthFile, H, P, readMonth}
 use Rattle.rules.specs.Reconciliation.{lossOf}
 use Rattle.rules.specs.Refusals.{Refusal, wrongLength, Verdict, accepted, refused, Answer, given, refusal, unless, andThen, first, answer, afterwards}
 use Rattle.rules.specs.Services.{atℤ}
+use Rattle.rules.specs.WellFormed.{Bytes}
 use Rattle.rules.specs.Words.{sum, sumℤ, at, figures}
 use Rattle.rules.proofs.Integers.{sumℤ-cong, sumℤ-swap}
 use Rattle.rules.proofs.Loops.{figures-length, figures-at}
 use Rattle.rules.proofs.Month.{Judged, accepted-is-judged, heading-right, W-in-range, fixed-hours-have, every-hour-has-its-figure, demand-3-of-the-month, hour-differences-add-up, all-distributed, all-differences, all-amounts}
+use Rattle.rules.proofs.ReadingRefused.{reading-refused-exactly}
 use Rattle.rules.proofs.Reconciliation.{one-carries-the-loss}
 use Rattle.rules.proofs.Refusals.{refused-not-accepted, accepted-exactly, refused-exactly, both-accept, unless-exactly}
 use Rattle.rules.proofs.Sums.{sum-cong, sum-swap}
+use Rattle.rules.proofs.WellFormed.{read-exactly}
 use Rattle.rules.proofs.Whole.{what-is-read-is-whole}
 
 -- The verdict can be read back from what an answer tells.
@@ -61,61 +64,80 @@ module _ (file : List ℕ) (lent : Outputs) where
   unfolding settleVerdict callVerdict fileVerdict monthOf
   the-call = refl
 
-  -- accepted, then no refusal applies
-  none-applies : (read : Answer MonthFile) → readMonth file ≡ read → verdictFor read ≡ accepted → NoRefusalApplies file lent
+  -- what an accepted call says of the file, whatever its members
+  record ReadAndRight : Type 0 where
+    month : MonthFile
+    read : readMonth file ≡ given month
+    no-check-refuses : NoneRefuses (monthChecks month)
+    lent-right : right month ≡ true
+
+  read-and-right : (read : Answer MonthFile) → readMonth file ≡ read → verdictFor read ≡ accepted → ReadAndRight
   unfolding verdictOn monthVerdict monthRead andThen
-  none-applies (given m) is e =
+  read-and-right (given m) is e =
       let both = both-accept (first (monthChecks m)) (last m) e in
       record { month = m; read = is; no-check-refuses = accepted-exactly (monthChecks m) .0 (both .0); lent-right = unless-exactly _ _ _ .0 (both .1) }
-  none-applies (refusal r place) is e = absurd (refused-not-accepted e)
+  read-and-right (refusal r place) is e = absurd (refused-not-accepted e)
 
-  -- and the other way
-  then-accepts : NoRefusalApplies file lent → verdictFor (readMonth file) ≡ accepted
-  unfolding verdictOn monthVerdict monthRead andThen
-  then-accepts h =
-      ap verdictFor (h .read)
-      ∙ ap₂ (λ (u v : Verdict). andThen u v) (accepted-exactly (monthChecks (h .month)) .1 (h .no-check-refuses))
-      (unless-exactly (right (h .month)) wrongLength 0 .1 (h .lent-right))
+  -- A file of bytes is read as a month exactly when it is the file of that month, well formed.
+  module _ (small : Bytes file) where
+    its-file : (m : MonthFile) → readMonth file ≡ given m → FileOf file m
+    its-file m is = let h = read-exactly file m small .0 is in record { well-formed = h .0; its-bytes = h .1 }
 
-  module _ (r : Refusal) (place : ℕ) where
-    -- refused, then that refusal applies: once the file is read by the month's checks, and then by the lengths
-    by-the-lent :
-        (m : MonthFile)
-        → readMonth file ≡ given m
-        → NoneRefuses (monthChecks m) → (b : Bool)
-        → right m ≡ b
-        → unless b wrongLength 0 ≡ refused r place
-        → RefusalApplies file lent r place
-    unfolding unless
-    by-the-lent m is none true w e = absurd (refused-not-accepted (sym e))
-    by-the-lent m is none false w e =
-        let same : r ≡ wrongLength = cc in
-        let at-the-start : place ≡ 0 = cc in
-        of-the-lent (record { month = m; read = is; no-check-refuses = none; lent-wrong = w; is-16 = same; at-0 = at-the-start })
+    is-read : {m : MonthFile} → FileOf file m → readMonth file ≡ given m
+    is-read {m} h = read-exactly file m small .1 (h .well-formed, h .its-bytes)
 
-    by-the-month : (m : MonthFile) → readMonth file ≡ given m → (v : Verdict) → first (monthChecks m) ≡ v → andThen v (last m) ≡ refused r place → RefusalApplies file lent r place
-    unfolding andThen
-    by-the-month m is accepted f e = by-the-lent m is (accepted-exactly (monthChecks m) .0 f) (right m) refl e
-    by-the-month m is (refused s q) f e =
-        of-the-month (record { month = m; read = is; first-refuses = refused-exactly (monthChecks m) r place .0 (f ∙ e) })
-
-    it-applies : (read : Answer MonthFile) → readMonth file ≡ read → verdictFor read ≡ refused r place → RefusalApplies file lent r place
-    unfolding verdictOn monthVerdict monthRead andThen
-    it-applies (given m) is e = by-the-month m is (first (monthChecks m)) refl e
-    it-applies (refusal s q) is e =
-        let same : _≡_ {A = Answer MonthFile} (refusal s q) (refusal r place) = cc in
-        of-reading (is ∙ same)
+    -- accepted, then no refusal applies
+    none-applies : ReadAndRight → NoRefusalApplies file lent
+    none-applies h = record { month = h .month; is-its-file = its-file (h .month) (h .read); no-check-refuses = h .no-check-refuses; lent-right = h .lent-right }
 
     -- and the other way
-    then-refuses : RefusalApplies file lent r place → verdictFor (readMonth file) ≡ refused r place
-    unfolding verdictOn monthVerdict monthRead andThen unless
-    then-refuses (of-reading e) = ap verdictFor e
-    then-refuses (of-the-month h) =
-        ap verdictFor (h .read) ∙ ap (λ (u : Verdict). andThen u (last (h .month))) (refused-exactly (monthChecks (h .month)) r place .1 (h .first-refuses))
-    then-refuses (of-the-lent h) =
-        ap verdictFor (h .read)
-        ∙ ap₂ (λ (u : Verdict) (b : Bool). andThen u (unless b wrongLength 0)) (accepted-exactly (monthChecks (h .month)) .1 (h .no-check-refuses)) (h .lent-wrong)
-        ∙ ap₂ refused (sym (h .is-16)) (sym (h .at-0))
+    then-accepts : NoRefusalApplies file lent → verdictFor (readMonth file) ≡ accepted
+    unfolding verdictOn monthVerdict monthRead andThen
+    then-accepts h =
+        ap verdictFor (is-read (h .is-its-file))
+        ∙ ap₂ (λ (u v : Verdict). andThen u v) (accepted-exactly (monthChecks (h .month)) .1 (h .no-check-refuses))
+        (unless-exactly (right (h .month)) wrongLength 0 .1 (h .lent-right))
+
+    module _ (r : Refusal) (place : ℕ) where
+      -- refused, then that refusal applies: once the file is read by the month's checks, and then by the lengths
+      by-the-lent :
+          (m : MonthFile)
+          → FileOf file m
+          → NoneRefuses (monthChecks m) → (b : Bool)
+          → right m ≡ b
+          → unless b wrongLength 0 ≡ refused r place
+          → RefusalApplies file lent r place
+      unfolding unless
+      by-the-lent m is none true w e = absurd (refused-not-accepted (sym e))
+      by-the-lent m is none false w e =
+          let same : r ≡ wrongLength = cc in
+          let at-the-start : place ≡ 0 = cc in
+          of-the-lent (record { month = m; is-its-file = is; no-check-refuses = none; lent-wrong = w; is-16 = same; at-0 = at-the-start })
+
+      by-the-month : (m : MonthFile) → FileOf file m → (v : Verdict) → first (monthChecks m) ≡ v → andThen v (last m) ≡ refused r place → RefusalApplies file lent r place
+      unfolding andThen
+      by-the-month m is accepted f e = by-the-lent m is (accepted-exactly (monthChecks m) .0 f) (right m) refl e
+      by-the-month m is (refused s q) f e =
+          of-the-month (record { month = m; is-its-file = is; first-refuses = refused-exactly (monthChecks m) r place .0 (f ∙ e) })
+
+      it-applies : (read : Answer MonthFile) → readMonth file ≡ read → verdictFor read ≡ refused r place → RefusalApplies file lent r place
+      unfolding verdictOn monthVerdict monthRead andThen
+      it-applies (given m) is e = by-the-month m (its-file m is) (first (monthChecks m)) refl e
+      it-applies (refusal s q) is e =
+          let same : _≡_ {A = Answer MonthFile} (refusal s q) (refusal r place) = cc in
+          of-reading (reading-refused-exactly file r place small .0 (is ∙ same))
+
+      -- and the other way
+      then-refuses : RefusalApplies file lent r place → verdictFor (readMonth file) ≡ refused r place
+      unfolding verdictOn monthVerdict monthRead andThen unless
+      then-refuses (of-reading h) = ap verdictFor (reading-refused-exactly file r place small .1 h)
+      then-refuses (of-the-month h) =
+          ap verdictFor (is-read (h .is-its-file))
+          ∙ ap (λ (u : Verdict). andThen u (last (h .month))) (refused-exactly (monthChecks (h .month)) r place .1 (h .first-refuses))
+      then-refuses (of-the-lent h) =
+          ap verdictFor (is-read (h .is-its-file))
+          ∙ ap₂ (λ (u : Verdict) (b : Bool). andThen u (unless b wrongLength 0)) (accepted-exactly (monthChecks (h .month)) .1 (h .no-check-refuses)) (h .lent-wrong)
+          ∙ ap₂ refused (sym (h .is-16)) (sym (h .at-0))
 
 -- A list that holds the figures of a column: each figure, and their sum.
 signed-at : (n : ℕ) (f : ℕ → ℤ) {held : List ℤ} → held ≡ figures n f → (i : ℕ) → i < n → atℤ held i ≡ f i
@@ -163,26 +185,26 @@ module _ {file : List ℕ} {r : Settlement} (lent held : Outputs) (is : Kept fil
       sym (as-told r) ∙ ap verdictTold (is .answer) ∙ as-answered _ (summaryOf (monthOf file))
       ∙ the-call file lent
 
-  -- "A month is accepted exactly when no refusal there applies."
-  pub accepted-exactly-when : (verdict r ≡ accepted) ↔ NoRefusalApplies file lent
-  accepted-exactly-when = (
-    λ e. none-applies file lent (readMonth file) refl (sym its-verdict ∙ e),
-    λ h. its-verdict ∙ then-accepts file lent h,
+  -- "A month is accepted exactly when no refusal there applies." A slice of bytes has members below 256, which is all that is asked.
+  pub accepted-exactly-when : Bytes file → (verdict r ≡ accepted) ↔ NoRefusalApplies file lent
+  accepted-exactly-when small = (
+    λ e. none-applies file lent small (read-and-right file lent (readMonth file) refl (sym its-verdict ∙ e)),
+    λ h. its-verdict ∙ then-accepts file lent small h,
   )
 
   -- "A refusal returns its number and a place": exactly when it is the one that applies
-  pub refused-exactly-when : (why : Refusal) (place : ℕ) → (verdict r ≡ refused why place) ↔ RefusalApplies file lent why place
-  refused-exactly-when why place = (
-    λ e. it-applies file lent why place (readMonth file) refl (sym its-verdict ∙ e),
-    λ h. its-verdict ∙ then-refuses file lent why place h,
+  pub refused-exactly-when : Bytes file → (why : Refusal) (place : ℕ) → (verdict r ≡ refused why place) ↔ RefusalApplies file lent why place
+  refused-exactly-when small why place = (
+    λ e. it-applies file lent small why place (readMonth file) refl (sym its-verdict ∙ e),
+    λ h. its-verdict ∙ then-refuses file lent small why place h,
   )
 
   module _ (ok : verdict r ≡ accepted) where
     abbrev m : MonthFile
     m = monthOf file
 
-    none : NoRefusalApplies file lent
-    none = accepted-exactly-when .0 ok
+    none : ReadAndRight file lent
+    none = read-and-right file lent (readMonth file) refl (sym its-verdict ∙ ok)
 
     its-month : m ≡ none .month
     its-month = month-of file (none .read)

@@ -15,8 +15,10 @@ use Rattle.rules.specs.Limits.{greatestW, greatestResidual}
 use Rattle.rules.specs.Month.{flowsAt, shareOf, monthW, appliedFlows, appliedWh, distributed, periodised, allPeriodised, loss, difference, amount, monthChecks}
 use Rattle.rules.specs.MonthFile.{MonthFile, H, P, readMonth}
 use Rattle.rules.specs.Reconciliation.{lossOf}
-use Rattle.rules.specs.Refusals.{Refusal, wrongLength, given, refusal}
+use Rattle.rules.specs.ReadingRefused.{ReadingRefuses}
+use Rattle.rules.specs.Refusals.{Refusal, wrongLength, given}
 use Rattle.rules.specs.Services.{atℤ}
+use Rattle.rules.specs.WellFormed.{WellFormed, fileOf}
 use Rattle.rules.specs.Words.{sum, sumℤ, at}
 
 -- the lent outputs of the call, by their names: what they hold before it, or once it has answered
@@ -39,23 +41,29 @@ placesRight parties lent =
     lentRight parties (length (lent .distributed)) (length (lent .periodised)) (length (lent .losses))
     (length (lent .differences)) (length (lent .amounts))
 
--- "A month is accepted exactly when no refusal there applies.": no refusal of reading, none of the month's checks, and not 16
+-- the file's bytes are those of a month that is well formed
+pub record FileOf (file : List ℕ) (month : MonthFile) : Type 0 where
+  pub well-formed : WellFormed month
+  pub its-bytes : file ≡ fileOf month
+
+-- "A month is accepted exactly when no refusal there applies.": the file is that of a well-formed month, no check of the month refuses, and not 16
 pub record NoRefusalApplies (file : List ℕ) (lent : Outputs) : Type 0 where
   pub month : MonthFile
-  pub read : readMonth file ≡ given month
+  pub is-its-file : FileOf file month
   pub no-check-refuses : NoneRefuses (monthChecks month)
   pub lent-right : placesRight (P month) lent ≡ true
 
--- "The file is read first", "Then 6; then the fixed hours ..": the file is read, and of the month's checks in their order this is the first that refuses
+-- "The file is read first", "Then 6; then the fixed hours ..": the file is that of a well-formed month, and of the month's checks in their order this is the
+-- first that refuses
 pub record MonthRefuses (file : List ℕ) (r : Refusal) (place : ℕ) : Type 0 where
   pub month : MonthFile
-  pub read : readMonth file ≡ given month
+  pub is-its-file : FileOf file month
   pub first-refuses : FirstRefuses (monthChecks month) r place
 
--- "last, for a call on a whole month, 16", at place 0: the file is read, no check of the month refuses, and some lent output has not a place for each party
+-- "last, for a call on a whole month, 16", at place 0: no check of the month refuses, and some lent output has not a place for each party
 pub record LentWrong (file : List ℕ) (lent : Outputs) (r : Refusal) (place : ℕ) : Type 0 where
   pub month : MonthFile
-  pub read : readMonth file ≡ given month
+  pub is-its-file : FileOf file month
   pub no-check-refuses : NoneRefuses (monthChecks month)
   pub lent-wrong : placesRight (P month) lent ≡ false
   pub is-16 : r ≡ wrongLength
@@ -63,7 +71,7 @@ pub record LentWrong (file : List ℕ) (lent : Outputs) (r : Refusal) (place : �
 
 -- the refusal that applies, with its place: one of reading, else one of the month, else 16
 pub data RefusalApplies (file : List ℕ) (lent : Outputs) (r : Refusal) (place : ℕ) : Type 0 where
-  of-reading : readMonth file ≡ refusal r place → RefusalApplies file lent r place
+  of-reading : ReadingRefuses file r place → RefusalApplies file lent r place
   of-the-month : MonthRefuses file r place → RefusalApplies file lent r place
   of-the-lent : LentWrong file lent r place → RefusalApplies file lent r place
 

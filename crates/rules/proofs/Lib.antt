@@ -18,3 +18,7 @@ pub mod WorkedMonths
 pub mod WorkedServices
 pub mod Places
 pub mod RoundTrip
+pub mod ReadThrough
+pub mod MonthRecords
+pub mod WellFormed
+pub mod ReadingRefused

@@ -1,6 +1,6 @@
 -- Where each record of a file stands: a file that is read has its heading at 0, then the parties, the fixed hours, the refixed hours, the prices and the
 -- readings, each kind at a fixed distance. What has been read so far takes up as many bytes as its records have.
-use mathlib.Core.Bool.{Bool, true, false, cond, _&&_, _||_}
+use mathlib.Core.Bool.{Bool, true, false, _&&_, _||_}
 use mathlib.Core.List.{List, [], _∷_, _++_}
 use mathlib.Core.Logic.{_⊎_, inl, inr, ⊎-elim}
 use mathlib.Core.Path.{_≡_, refl, sym, _∙_, ap, subst}
@@ -17,10 +17,10 @@ use Rattle.rules.specs.Flows.{Flows}
 use Rattle.rules.specs.MonthFile.{MonthFile, nothingYet, H, P, due, recordChecks, with, isEnd, closed, readOn, readMonth}
 use Rattle.rules.specs.Record.{Heading, Party, Reading, Record, heading, party, fixedHour, reading, price, refixedHour, end, bodyLength, known, fieldWidths}
 use Rattle.rules.specs.Record.{cutInto, kindAt, recordAt, inFile, headingInRange, checks}
-use Rattle.rules.specs.Refusals.{fileFault, given, refusal, first}
-use Rattle.rules.specs.Limits.{longestFile}
-use Rattle.rules.specs.Words.{at, within}
-use Rattle.rules.proofs.Whole.{Counts, Sound, before-the-heading, both-pass, heading-facts, step, nothing-is-sound, given-not-refusal, went-on, closed-gives}
+use Rattle.rules.specs.Refusals.{given, first}
+use Rattle.rules.specs.WellFormed.{asParty, asReading}
+use Rattle.rules.specs.Words.{at}
+use Rattle.rules.proofs.Whole.{Counts, Sound, before-the-heading, both-pass, heading-facts, step, nothing-is-sound, given-not-refusal, went-on, closed-gives, of-the-right-length}
 use Rattle.rules.proofs.Refusals.{accepted-exactly, unless-exactly}
 pub use Rattle.rules.proofs.EachKind.{lengthOf, length-of-record}
 
@@ -70,13 +70,6 @@ priceOffset parties hours refixed k = 10 + 22 * parties + 36 * hours + 36 * refi
 abbrev pub readingOffset : ℕ → ℕ → ℕ → ℕ → ℕ
 readingOffset parties hours refixed k = 10 + 22 * parties + 36 * hours + 36 * refixed + 7 * hours + 10 * k
 
--- each record without the number that it need not be told
-abbrev asParty : ℕ → Party → Record
-asParty k p = party p
-
-abbrev asReading : ℕ → Reading → Record
-asReading k r = reading r
-
 -- What has been read so far of a file, up to an offset.
 pub record Placed (file : List ℕ) (m : MonthFile) (offset : ℕ) : Type 0 where
   pub at-start : H m ≡ 0 → offset ≡ 0
@@ -113,14 +106,14 @@ module _ {h p a f r q g : ℕ} (c : Counts h p a f r q g) where
   some-hours : 0 < p → 0 < h
   some-hours b = ⊎-elim (λ (z : h ≡ 0). absurd (omega (arith, c .headed z))) (λ (s : 0 < h). s) (eq-zero-or-pos h)
 
-  parties-due : a < p → (0 < h) × (f ≡ 0) × (r ≡ 0) × (q ≡ 0) × (g ≡ 0)
+  pub parties-due : a < p → (0 < h) × (f ≡ 0) × (r ≡ 0) × (q ≡ 0) × (g ≡ 0)
   parties-due b =
       let some : 0 < h = some-hours (omega arith) in
       let no-fixed : f ≡ 0 = none-of f (λ x. omega (arith, c .parties-first x)) in
       let no-prices : q ≡ 0 = none-of q (λ x. omega (arith, c .fixed-priced x)) in
       (some, no-fixed, none-of r (λ x. omega (arith, c .fixed-first x)), no-prices, none-of g (λ x. omega (arith, c .prices-first x .0)))
 
-  fixed-due : f < h → (r ≡ 0) × (q ≡ 0) × (g ≡ 0)
+  pub fixed-due : f < h → (r ≡ 0) × (q ≡ 0) × (g ≡ 0)
   fixed-due b =
       let no-prices : q ≡ 0 = none-of q (λ x. omega (arith, c .fixed-priced x)) in
       (none-of r (λ x. omega (arith, c .fixed-first x)), no-prices, none-of g (λ x. omega (arith, c .prices-first x .0)))
@@ -128,7 +121,7 @@ module _ {h p a f r q g : ℕ} (c : Counts h p a f r q g) where
   all-parties : f ≡ h → 0 < h → a ≡ p
   all-parties e b = c .parties-first (omega arith)
 
-  no-readings : q < h → g ≡ 0
+  pub no-readings : q < h → g ≡ 0
   no-readings b = none-of g (λ x. omega (arith, c .prices-first x .0))
 
   all-fixed : q ≡ h → 0 < h → f ≡ h
@@ -320,11 +313,6 @@ read-on-placed file (suc more) (kind ∷ body) n m offset here s p {m′} e =
     (place file m s offset p n r z d (passed .1 .1 .1) (here-stands file offset kind body here k b)) gives)
     (end-or-not r)
 
-of-the-right-length : (fits : Bool) (file : List ℕ) {m : MonthFile} → cond fits (readOn (length file) file 0 nothingYet) (refusal fileFault 0) ≡ given m → (o : ℕ) × Placed file m o
-of-the-right-length true file e = read-on-placed file (length file) file 0 nothingYet 0 refl nothing-is-sound (nothing-is-placed file) e
-of-the-right-length false file e = absurd (given-not-refusal e)
-
 -- THE RECORDS OF A FILE THAT IS READ STAND AT THEIR PLACES.
 pub what-is-read-is-placed : (file : List ℕ) {m : MonthFile} → readMonth file ≡ given m → (o : ℕ) × Placed file m o
-unfolding readMonth
-what-is-read-is-placed file e = of-the-right-length (within 1 longestFile (length file)) file e
+what-is-read-is-placed file e = read-on-placed file (length file) file 0 nothingYet 0 refl nothing-is-sound (nothing-is-placed file) (of-the-right-length file e .1)

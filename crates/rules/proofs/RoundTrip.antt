@@ -26,6 +26,7 @@ use Rattle.rules.specs.Words.{at, withinℤ, joined}
 use Rattle.rules.proofs.EachKind.{Entries, each-kind, kind-known, kind-of-record}
 use Rattle.rules.proofs.Refusals.{accepted-exactly, unless-exactly}
 use Rattle.rules.proofs.Whole.{HeadingFacts, heading-facts, both-pass}
+unfoldable pub use Rattle.rules.specs.WellFormed.{Bytes}
 
 -- NUMBERS AND BYTES
 
@@ -48,10 +49,6 @@ number-of-bytes (suc width) n h =
     ∙ ap (λ (x : ℕ). x * 256 + n % 256) (number-of-bytes width (n / 256) (omega (arith, pow-suc 256 width)))
     ∙ omega arith
 
--- bytes: every one below 256
-pub Bytes : List ℕ → Type 0
-Bytes l = (i : ℕ) → getD l i 0 < 256
-
 bytes-take : (n : ℕ) (l : List ℕ) → Bytes l → Bytes (take n l)
 unfolding Bytes
 bytes-take zero l h i = omega arith
@@ -59,7 +56,7 @@ bytes-take (suc n) [] h i = omega arith
 bytes-take (suc n) (x ∷ l) h zero = h 0
 bytes-take (suc n) (x ∷ l) h (suc i) = bytes-take n l (λ j. h (suc j)) i
 
-bytes-drop : (n : ℕ) (l : List ℕ) → Bytes l → Bytes (drop n l)
+pub bytes-drop : (n : ℕ) (l : List ℕ) → Bytes l → Bytes (drop n l)
 unfolding Bytes
 bytes-drop n l h i = rw (getD-drop n l i 0) (h (n + i))
 
@@ -319,14 +316,14 @@ fields-back (refixedHour hour f) n c =
     ap₂ refixedHour (hour-back hour f h) (flows-back hour f h)
 fields-back (end count) n c = ap end (number-of-bytes 4 count (n count refl))
 
-record-back : (r : Record) (more : List ℕ) → CountHeld r → NoneRefuses (checks alone r) → recordAt (recordBytes r ++ more) ≡ r
+pub record-back : (r : Record) (more : List ℕ) → CountHeld r → NoneRefuses (checks alone r) → recordAt (recordBytes r ++ more) ≡ r
 unfolding recordBytes recordAt kindAt at
 record-back r more n c =
     ap (λ (ws : List ℕ). recordFrom (kindOf r) (cutInto ws (joined (written-fields r) ++ more))) (sym (widths-are r c))
     ∙ ap (recordFrom (kindOf r)) (cut-joined (written-fields r) more)
     ∙ fields-back r n c
 
-kind-back : (r : Record) (more : List ℕ) → kindAt (recordBytes r ++ more) ≡ kindOf r
+pub kind-back : (r : Record) (more : List ℕ) → kindAt (recordBytes r ++ more) ≡ kindOf r
 unfolding recordBytes kindAt at
 kind-back r more = refl
 

@@ -1,26 +1,27 @@
--- What is read is whole: a file that is read through to its end record has the records that its heading announces, each within its ranges. Each record
--- that is due and right keeps what has been read so far `Sound`, and where the end record is due a sound month is `Whole`.
+-- What is read is whole (specs/WellFormed): a file that is read through to its end record has the records that its heading announces, each within its rules.
+-- Each record that is due and right keeps what has been read so far `Sound`, and where the end record is due a sound month is `Whole`.
 use mathlib.Core.Bool.{Bool, true, false, cond, _&&_, _||_}
 use mathlib.Core.List.{List, [], _∷_, _++_}
-use mathlib.Core.Logic.{_⊎_, inl, inr, ⊎-elim}
+use mathlib.Core.Logic.{_⊎_, _↔_, inl, inr, ⊎-elim}
 use mathlib.Core.Path.{_≡_, refl, _∙_, ap, subst}
 use Prim.Native.Nat.{ℕ, zero, suc, _+_, _≤_, _<_, zero-le}
-use native.Mathlib.Nat.{not-suc-le-zero, le-of-suc-le-suc, eq-zero-or-pos}
+use native.Mathlib.Nat.{not-suc-le-zero, le-of-suc-le-suc, eq-zero-or-pos, lt-trans}
 use native.Mathlib.Omega.{arith}
-use borrow.Author.Tests.{ltb-true, leb-true, eqb-true}
+use borrow.Author.Tests.{ltb-true, leb-true, eqb-true, lt-ltb}
 use lib.Dec.{eqb, leb, ltb}
 use lib.IntN.{ℤ, pos, negsuc, natAbs}
 use lib.ListN.{length, getD, drop, length-append, length-drop}
 use Rattle.rules.specs.Accepted.{NoneRefuses}
 use Rattle.rules.specs.Flows.{Flows, flowsInRange, silentIsZero}
-use Rattle.rules.specs.Gln.{validGln}
+use Rattle.rules.specs.Gln.{validGln, rises, digitsOnto}
 use Rattle.rules.specs.Limits.{greatestArea, earliestYear, latestYear, monthsOfAYear, mostHours, mostParties, greatestShare, greatestEnergy, greatestPrice, longestFile}
-use Rattle.rules.specs.MonthFile.{MonthFile, nothingYet, H, P, due, recordChecks, with, isEnd, closed, onward, readOn, readMonth}
+use Rattle.rules.specs.MonthFile.{MonthFile, nothingYet, H, P, due, risesAfter, recordChecks, with, isEnd, closed, onward, readOn, readMonth}
 use Rattle.rules.specs.Record.{Heading, Party, Reading, Record, heading, party, fixedHour, reading, price, refixedHour, end, bodyLength, recordAt}
 use Rattle.rules.specs.Record.{inFile, headingInRange, hourInRange, checks}
 use Rattle.rules.specs.Refusals.{Refusal, fileFault, Verdict, accepted, refused, Answer, given, refusal, first}
 use Rattle.rules.specs.Words.{within, withinℤ}
 use Rattle.rules.proofs.Refusals.{accepted-exactly, unless-exactly}
+pub use Rattle.rules.specs.WellFormed.{Every, PartyRight, FlowsRight, PriceRight, ReadingRight, HeadingRight, Below, Rising, Whole}
 
 -- Tests that are both passed.
 pub both-pass : (a b : Bool) → a && b ≡ true → (a ≡ true) × (b ≡ true)
@@ -44,11 +45,7 @@ within-size (suc most) (pos n) e = leb-true n (suc most) (both-pass true (leb n 
 within-size zero (negsuc n) e = absurd (let z : _≡_ {A = ℕ} 0 1 = cc in omega arith)
 within-size (suc most) (negsuc n) e = omega (arith, leb-true n most (both-pass (leb n most) true e .0))
 
--- Every member of a list is such.
-abbrev pub Every : {A : Type 0} → (A → Type 0) → List A → Type 0
-Every is [] = Unit
-Every is (x ∷ l) = is x × Every is l
-
+-- Every member of a list is such: one more, none, one of them.
 every-more : {A : Type 0} (is : A → Type 0) (l : List A) (x : A) → Every is l → is x → Every is (l ++ (x ∷ []))
 every-more is [] x h k = (k, tt)
 every-more is (y ∷ l) x h k = (h .0, every-more is l x (h .1) k)
@@ -65,22 +62,7 @@ every-at is (x ∷ l) h (suc i) d b = every-at is l (h .1) i d (le-of-suc-le-suc
 one-more : {A : Type 0} (l : List A) (x : A) → length (l ++ (x ∷ [])) ≡ suc (length l)
 one-more l x = length-append l (x ∷ []) ∙ omega arith
 
--- What the rule of its fields says of each kind.
-abbrev pub PartyRight : Party → Type 0
-PartyRight p = (p .share ≤ greatestShare) × (validGln (p .gln) ≡ true)
-
-abbrev pub FlowsRight : Flows → Type 0
-FlowsRight f = (flowsInRange f ≡ true) × (silentIsZero f ≡ true)
-
-abbrev pub PriceRight : ℤ → Type 0
-PriceRight z = withinℤ greatestPrice z ≡ true
-
-abbrev pub ReadingRight : ℕ → ℕ → Reading → Type 0
-ReadingRight hours parties r = (r .party < parties) × (r .a < r .b) × (r .b ≤ hours) × (r .e ≤ greatestEnergy)
-
-abbrev pub HeadingRight : Heading → Type 0
-HeadingRight h = headingInRange h ≡ true
-
+-- What the rule of its fields says of a heading.
 pub record HeadingFacts (h : Heading) : Type 0 where
   pub area : (1 ≤ h .area) × (h .area ≤ greatestArea)
   pub year : (earliestYear ≤ h .year) × (h .year ≤ latestYear)
@@ -110,6 +92,26 @@ heading-facts h e =
       parties = within-is 1 mostParties (h .parties) (t4 .1);
       carrier = ltb-true (h .carrier) (h .parties) (t5 .1);
     }
+
+-- GLNs THAT RISE: what is above the last of some that rise is above them all.
+pub rises-strictly : (earlier later : List ℕ) → (rises earlier later ≡ true) ↔ (digitsOnto 0 earlier < digitsOnto 0 later)
+unfolding rises
+rises-strictly earlier later = (ltb-true (digitsOnto 0 earlier) (digitsOnto 0 later), lt-ltb (digitsOnto 0 earlier) (digitsOnto 0 later))
+
+above-all : (l : List Party) (p : Party) → Rising l → risesAfter l p ≡ true → Every (λ (q : Party). Below q p) l
+unfolding risesAfter
+above-all [] p h e = tt
+above-all (q ∷ []) p h e = (rises-strictly (q .gln) (p .gln) .0 e, tt)
+above-all (q ∷ (q′ ∷ l)) p h e =
+    let later : Every (λ (x : Party). Below x p) (q′ ∷ l) = above-all (q′ ∷ l) p (h .1) e in
+    (lt-trans (h .0 .0) (later .0), later)
+
+one-above : (l : List Party) (p : Party) → Rising l → Every (λ (q : Party). Below q p) l → Rising (l ++ (p ∷ []))
+one-above [] p h a = (tt, tt)
+one-above (q ∷ l) p h a = (every-more (Below q) l p (h .0) (a .0), one-above l p (h .1) (a .1))
+
+rising-more : (l : List Party) (p : Party) → Rising l → risesAfter l p ≡ true → Rising (l ++ (p ∷ []))
+rising-more l p h e = one-above l p h (above-all l p h e)
 
 -- How many of each kind there are, of a file of h hours and p parties: a parties, f fixed and r refixed hours, q prices, g readings.
 pub record Counts (h p a f r q g : ℕ) : Type 0 where
@@ -243,19 +245,7 @@ pub record Sound (m : MonthFile) : Type 0 where
   pub counts : Counts (H m) (P m) (length (m .parties)) (length (m .fixed)) (length (m .refixed)) (length (m .prices)) (length (m .readings))
   pub head : 0 < H m → HeadingRight (m .heading)
   pub parties : Every PartyRight (m .parties)
-  pub fixed : Every FlowsRight (m .fixed)
-  pub refixed : Every FlowsRight (m .refixed)
-  pub prices : Every PriceRight (m .prices)
-  pub readings : Every (ReadingRight (H m) (P m)) (m .readings)
-
--- The month that a whole file gives.
-pub record Whole (m : MonthFile) : Type 0 where
-  pub head : HeadingRight (m .heading)
-  pub all-parties : length (m .parties) ≡ P m
-  pub all-fixed : length (m .fixed) ≡ H m
-  pub none-or-all-refixed : (length (m .refixed) ≡ 0) ⊎ (length (m .refixed) ≡ H m)
-  pub all-prices : length (m .prices) ≡ H m
-  pub parties : Every PartyRight (m .parties)
+  pub rising : Rising (m .parties)
   pub fixed : Every FlowsRight (m .fixed)
   pub refixed : Every FlowsRight (m .refixed)
   pub prices : Every PriceRight (m .prices)
@@ -264,7 +254,7 @@ pub record Whole (m : MonthFile) : Type 0 where
 pub nothing-is-sound : Sound nothingYet
 unfolding nothingYet H P
 nothing-is-sound =
-    record { counts = nothing-counted; head = λ x. absurd (omega arith); parties = tt; fixed = tt; refixed = tt; prices = tt; readings = tt }
+    record { counts = nothing-counted; head = λ x. absurd (omega arith); parties = tt; rising = tt; fixed = tt; refixed = tt; prices = tt; readings = tt }
 
 -- One record that is due and passes its checks keeps the month sound.
 module _ (m : MonthFile) (s : Sound m) (n : ℕ) where
@@ -280,6 +270,7 @@ module _ (m : MonthFile) (s : Sound m) (n : ℕ) where
         counts = simp (none .0, none .1, none .2, none .3, none .4) (none-counted (heading-facts h right .hours .0));
         head = λ x. right;
         parties = s .parties;
+        rising = s .rising;
         fixed = s .fixed;
         refixed = s .refixed;
         prices = s .prices;
@@ -295,6 +286,7 @@ module _ (m : MonthFile) (s : Sound m) (n : ℕ) where
         counts = rw (one-more (m .parties) p) (one-party (s .counts) (ltb-true (length (m .parties)) (m .heading .parties) d));
         head = s .head;
         parties = every-more PartyRight (m .parties) p (s .parties) (share, valid);
+        rising = rising-more (m .parties) p (s .rising) (unless-exactly (risesAfter (m .parties) p) _ _ .0 (c .1 .1 .0));
         fixed = s .fixed;
         refixed = s .refixed;
         prices = s .prices;
@@ -317,6 +309,7 @@ module _ (m : MonthFile) (s : Sound m) (n : ℕ) where
         counts = rw (one-more (m .fixed) f) (one-fixed (s .counts) all (ltb-true (length (m .fixed)) (H m) (tests .1)));
         head = s .head;
         parties = s .parties;
+        rising = s .rising;
         fixed = every-more FlowsRight (m .fixed) f (s .fixed) right;
         refixed = s .refixed;
         prices = s .prices;
@@ -335,6 +328,7 @@ module _ (m : MonthFile) (s : Sound m) (n : ℕ) where
         counts = rw (one-more (m .refixed) f) (one-refixed (s .counts) all more (eqb-true (length (m .prices)) 0 (outer .1)));
         head = s .head;
         parties = s .parties;
+        rising = s .rising;
         fixed = s .fixed;
         refixed = every-more FlowsRight (m .refixed) f (s .refixed) right;
         prices = s .prices;
@@ -360,6 +354,7 @@ module _ (m : MonthFile) (s : Sound m) (n : ℕ) where
         counts = rw (one-more (m .prices) z) (one-price (s .counts) all (none-or-all (inner .1)) more);
         head = s .head;
         parties = s .parties;
+        rising = s .rising;
         fixed = s .fixed;
         refixed = s .refixed;
         prices = every-more PriceRight (m .prices) z (s .prices) right;
@@ -384,6 +379,7 @@ module _ (m : MonthFile) (s : Sound m) (n : ℕ) where
         counts = rw (one-more (m .readings) r) (one-reading (s .counts) all (leb-true 1 (H m) (tests .0)));
         head = s .head;
         parties = s .parties;
+        rising = s .rising;
         fixed = s .fixed;
         refixed = s .refixed;
         prices = s .prices;
@@ -408,6 +404,7 @@ module _ (m : MonthFile) (s : Sound m) where
         none-or-all-refixed = refixed;
         all-prices = all;
         parties = s .parties;
+        rising = s .rising;
         fixed = s .fixed;
         refixed = s .refixed;
         prices = s .prices;
@@ -468,14 +465,19 @@ read-on-whole (suc more) (kind ∷ body) n m s {m′} e =
     (λ s″. read-on-whole more (drop (bodyLength kind) body) (suc n) (with m r) s″)
     (on .1)
 
-of-the-right-length : (fits : Bool) (bytes : List ℕ) {m : MonthFile} → cond fits (readOn (length bytes) bytes 0 nothingYet) (refusal fileFault 0) ≡ given m → Whole m
-of-the-right-length true bytes e = read-on-whole (length bytes) bytes 0 nothingYet nothing-is-sound e
-of-the-right-length false bytes e = absurd (given-not-refusal e)
+length-passed : (fits : Bool) (read : Answer MonthFile) {m : MonthFile} → cond fits read (refusal fileFault 0) ≡ given m → (fits ≡ true) × (read ≡ given m)
+length-passed true read e = (refl, e)
+length-passed false read e = absurd (given-not-refusal e)
+
+-- a file that is read has the right length, and is read record by record
+pub of-the-right-length : (bytes : List ℕ) {m : MonthFile} → readMonth bytes ≡ given m
+    → (within 1 longestFile (length bytes) ≡ true) × (readOn (length bytes) bytes 0 nothingYet ≡ given m)
+unfolding readMonth
+of-the-right-length bytes e = length-passed (within 1 longestFile (length bytes)) (readOn (length bytes) bytes 0 nothingYet) e
 
 -- WHAT IS READ IS WHOLE.
 pub what-is-read-is-whole : (bytes : List ℕ) {m : MonthFile} → readMonth bytes ≡ given m → Whole m
-unfolding readMonth
-what-is-read-is-whole bytes e = of-the-right-length (within 1 longestFile (length bytes)) bytes e
+what-is-read-is-whole bytes e = read-on-whole (length bytes) bytes 0 nothingYet nothing-is-sound (of-the-right-length bytes e .1)
 
 -- THE BOUND OF `readOn` IS ENOUGH: from the number of bytes on, it does not matter how large it is
 pub bound-is-enough : (a b : ℕ) (bytes : List ℕ) (n : ℕ) (m : MonthFile) → length bytes ≤ a → length bytes ≤ b → readOn a bytes n m ≡ readOn b bytes n m

@@ -19,7 +19,8 @@
 --   data T : Type 0 where          T is a type whose values are the cases below (`Type 0` only says that it is a type)
 --   record { a = 1; b = 2 }, r .a  a value by its fields; the field a of r
 --   (a, b), p .0, p .1, A × B      a pair, its parts, and the type of pairs (or: both statements hold)
---   a ≡ b                          a equals b: a statement, which a proof shows
+--   a ≡ b, a ≤ b, a < b            a equals b; is at most b; is below b: statements, which a proof shows
+--   A ⊎ B, Unit                    one of the two statements holds at least; a statement that always holds
 --   abbrev, unfoldable, pub        say that other files may use a name or look behind it; they do not change what it means. Nor do `use` and `mod`.
 pub mod Words
 pub mod Limits
@@ -32,7 +33,9 @@ pub mod Periodised
 pub mod Reconciliation
 pub mod Gln
 pub mod Record
+pub mod WellFormed
 pub mod MonthFile
+pub mod ReadingRefused
 pub mod Month
 pub mod Services
 pub mod Statement

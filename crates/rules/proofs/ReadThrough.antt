@@ -1,0 +1,300 @@
+-- READING RECORD BY RECORD, over the bytes of records: those that pass are read one after the other whatever follows them (`reads-through`), and any bytes are
+-- those of records that pass and of a rest, at which the reading stops (`course`). Theorems of whole files rest on these two (proofs/WellFormed, ReadingRefused).
+use mathlib.Core.Bool.{Bool, true, false, cond, _&&_}
+use mathlib.Core.List.{List, [], _∷_, _++_, append-assoc}
+use mathlib.Core.Logic.{⊎-elim}
+use mathlib.Core.Path.{_≡_, refl, sym, _∙_, ap, ap₂, subst}
+use Prim.Native.Nat.{ℕ, zero, suc, _+_, _^_, _≤_, _<_}
+use native.Mathlib.Nat.{eq-zero-or-pos}
+use native.Mathlib.Numerals.{one-add}
+use native.Mathlib.Omega.{arith}
+use borrow.Author.Tests.{ltb-true, leb-true, eqb-true, lt-ltb, le-leb, eq-eqb}
+use lib.Dec.{eqb, leb, ltb}
+use lib.ListN.{length, take, drop, length-append, length-drop, take-append-drop}
+use lib.Seq.{drop-at}
+use Rattle.rules.specs.Accepted.{NoneRefuses}
+use Rattle.rules.specs.Flows.{Flows, flowsInRange, silentIsZero}
+use Rattle.rules.specs.Gln.{validGln}
+use Rattle.rules.specs.Limits.{mostHours, mostParties, greatestShare, greatestEnergy, greatestPrice, longestFile}
+use Rattle.rules.specs.MonthFile.{MonthFile, nothingYet, H, P, with, due, recordChecks, isEnd, closed, onward, readOn, readMonth}
+use Rattle.rules.specs.Record.{Record, heading, party, fixedHour, reading, price, refixedHour, end, bodyLength, known, kindAt, kindOf, recordAt, inWidths, fieldWidths, fieldsOf}
+use Rattle.rules.specs.Record.{recordBytes, inFile, alone, headingInRange, hourInRange, checks, readAlone}
+use Rattle.rules.specs.ReadingRefused.{Passes, AllPass, withAll}
+use Rattle.rules.specs.Refusals.{Refusal, fileFault, Verdict, accepted, refused, Answer, given, refusal, unless, andThen, first, answer}
+use Rattle.rules.specs.WellFormed.{Bytes, bytesOfAll}
+use Rattle.rules.specs.Words.{at, within, withinℤ, joined}
+use Rattle.rules.proofs.EachKind.{kind-known}
+use Rattle.rules.proofs.Refusals.{accepted-exactly, unless-exactly}
+use Rattle.rules.proofs.RoundTrip.{CountHeld, record-back, kind-back, record-length, written-of-read, bytes-drop}
+use Rattle.rules.proofs.Whole.{Sound, nothing-is-sound, heading-facts, both-pass, within-is, step, bound-is-enough}
+
+-- IN A FILE AND ALONE: a record without fault in a file is one without fault alone, since no file has more hours or parties than a record alone may have
+module _ (m : MonthFile) (s : Sound m) where
+  few-hours : H m ≤ mostHours
+  unfolding H
+  few-hours =
+      ⊎-elim (λ (z : H m ≡ 0). omega arith) (λ (b : 0 < H m). heading-facts (m .heading) (s .head b) .hours .1) (eq-zero-or-pos (H m))
+
+  few-parties : P m ≤ mostParties
+  unfolding H P
+  few-parties =
+      ⊎-elim (λ (z : H m ≡ 0). omega (arith, s .counts .headed z)) (λ (b : 0 < H m). heading-facts (m .heading) (s .head b) .parties .1) (eq-zero-or-pos (H m))
+
+  hour-alone : (hour : ℕ) (f : Flows) → hourInRange (H m) hour f ≡ true → hourInRange mostHours hour f ≡ true
+  unfolding hourInRange
+  hour-alone hour f e =
+      let outer = both-pass (ltb hour (H m) && flowsInRange f) (silentIsZero f) e in
+      let inner = both-pass (ltb hour (H m)) (flowsInRange f) (outer .0) in
+      rw (lt-ltb hour mostHours (omega (arith, few-hours, ltb-true hour (H m) (inner .0))), inner .1, outer .1)
+
+  alone-too : (n : ℕ) (r : Record) → NoneRefuses (checks (inFile m n) r) → NoneRefuses (checks alone r)
+  unfolding checks first andThen unless
+  alone-too n (heading h) c = accepted-exactly (checks alone (heading h)) .0 (rw (unless-exactly (headingInRange h) _ _ .0 (c .0)))
+  alone-too n (party p) c =
+      let share : leb (p .share) greatestShare ≡ true = unless-exactly (leb (p .share) greatestShare) _ _ .0 (c .0) in
+      let valid : validGln (p .gln) ≡ true = unless-exactly (validGln (p .gln)) _ _ .0 (c .1 .0) in
+      accepted-exactly (checks alone (party p)) .0 (rw (share, valid))
+  alone-too n (fixedHour hour f) c =
+      accepted-exactly (checks alone (fixedHour hour f)) .0 (rw (hour-alone hour f (unless-exactly (hourInRange (H m) hour f) _ _ .0 (c .0))))
+  alone-too n (refixedHour hour f) c =
+      accepted-exactly (checks alone (refixedHour hour f)) .0 (rw (hour-alone hour f (unless-exactly (hourInRange (H m) hour f) _ _ .0 (c .0))))
+  alone-too n (reading r) c =
+      let whose : r .party < P m = ltb-true (r .party) (P m) (unless-exactly (ltb (r .party) (P m)) _ _ .0 (c .0)) in
+      let span = both-pass (ltb (r .a) (r .b)) (leb (r .b) (H m)) (unless-exactly (ltb (r .a) (r .b) && leb (r .b) (H m)) _ _ .0 (c .1 .0)) in
+      let its-party : ltb (r .party) mostParties ≡ true = lt-ltb (r .party) mostParties (omega (arith, few-parties)) in
+      let early : leb (r .b) mostHours ≡ true = le-leb (r .b) mostHours (omega (arith, few-hours, leb-true (r .b) (H m) (span .1))) in
+      let energy : leb (r .e) greatestEnergy ≡ true = unless-exactly (leb (r .e) greatestEnergy) _ _ .0 (c .1 .1 .0) in
+      accepted-exactly (checks alone (reading r)) .0 (rw (its-party, span .0, early, energy))
+  alone-too n (price hour p) c =
+      let range = both-pass (ltb hour (H m)) (withinℤ greatestPrice p) (unless-exactly (ltb hour (H m) && withinℤ greatestPrice p) _ _ .0 (c .0)) in
+      let early : ltb hour mostHours ≡ true = lt-ltb hour mostHours (omega (arith, few-hours, ltb-true hour (H m) (range .0))) in
+      accepted-exactly (checks alone (price hour p)) .0 (rw (early, range .1))
+  alone-too n (end count) c = (refl, tt)
+
+-- ALL BYTES FROM A RECORD ON
+
+-- record number n and all after it: `readOn` with a bound that is enough
+abbrev pub readFrom : List ℕ → ℕ → MonthFile → Answer MonthFile
+readFrom bytes n m = readOn (length bytes) bytes n m
+
+-- what follows a record that none of its checks refuses, with the bytes that are left
+abbrev onFrom : Record → List ℕ → ℕ → MonthFile → Answer MonthFile
+onFrom r left n m = cond (isEnd r) (closed m (suc n) left) (readFrom left (suc n) (with m r))
+
+from-a-record : (kind : ℕ) (body : List ℕ) (n : ℕ) (m : MonthFile)
+    → readFrom (kind ∷ body) n m
+    ≡ onward (first (recordChecks m n (kind ∷ body))) (onFrom (recordAt (kind ∷ body)) (drop (bodyLength kind) body) n m)
+unfolding readOn
+from-a-record kind body n m =
+    let left : List ℕ = drop (bodyLength kind) body in
+    let r : Record = recordAt (kind ∷ body) in
+    ap (λ (rest : Answer MonthFile). onward (first (recordChecks m n (kind ∷ body))) (cond (isEnd r) (closed m (suc n) left) rest))
+    (bound-is-enough (length body) (length left) left (suc n) (with m r) (omega (arith, length-drop (bodyLength kind) body)) (omega arith))
+
+went-through : (v : Verdict) (rest : Answer MonthFile) → v ≡ accepted → onward v rest ≡ rest
+unfolding onward
+went-through v rest e = rw e
+
+-- a record without fault, and all that follows it
+one-record : (m : MonthFile) → Sound m → (n : ℕ) (r : Record) → due m r ≡ true → NoneRefuses (checks (inFile m n) r) → CountHeld r → (rest : List ℕ)
+    → readFrom (recordBytes r ++ rest) n m ≡ onFrom r rest n m
+unfolding recordBytes recordChecks
+one-record m s n r d c held rest =
+    let body : List ℕ = joined (inWidths (fieldWidths (kindOf r)) (fieldsOf r)) in
+    let none : NoneRefuses (checks alone r) = alone-too m s n r c in
+    let size : length (recordBytes r) ≡ 1 + bodyLength (kindOf r) = record-length r (accepted-exactly (checks alone r) .1 none) in
+    let is : recordAt (recordBytes r ++ rest) ≡ r = record-back r rest held none in
+    let fits : leb (1 + bodyLength (kindOf r)) (length (recordBytes r ++ rest)) ≡ true =
+    le-leb (1 + bodyLength (kindOf r)) (length (recordBytes r ++ rest)) (omega (arith, size, length-append (recordBytes r) rest)) in
+    let known-kind : known (kindAt (recordBytes r ++ rest)) ≡ true = rw (kind-back r rest) (kind-known r) in
+    let all-there : leb (1 + bodyLength (kindAt (recordBytes r ++ rest))) (length (recordBytes r ++ rest)) ≡ true = rw (kind-back r rest) fits in
+    let passes : NoneRefuses (recordChecks m n (recordBytes r ++ rest)) = (
+      unless-exactly _ _ _ .1 known-kind,
+      (unless-exactly _ _ _ .1 all-there, (unless-exactly _ _ _ .1 (rw is d), rw is c)),
+    ) in
+    from-a-record (kindOf r) (body ++ rest) n m
+    ∙ went-through _ _ (accepted-exactly (recordChecks m n (recordBytes r ++ rest)) .1 passes)
+    ∙ ap₂ (λ (x : Record) (left : List ℕ). onFrom x left n m) is (drop-at body rest (bodyLength (kindOf r)) (omega arith))
+
+-- RECORDS THAT PASS
+
+pub true-not-false : _≡_ {A = Bool} true false → ⊥
+true-not-false e = let z : _≡_ {A = ℕ} 0 1 = cc in omega arith
+
+-- only an end has a count to be held
+no-count : (r : Record) → isEnd r ≡ false → CountHeld r
+unfolding isEnd
+no-count r e count is = absurd (let z : _≡_ {A = Bool} true false = sym (ap isEnd is) ∙ e in true-not-false z)
+
+sound-after : (records : List Record) (m : MonthFile) → Sound m → (n : ℕ) → AllPass m n records → Sound (withAll m records)
+unfolding withAll
+sound-after [] m s n all = s
+sound-after (r ∷ records) m s n all = sound-after records (with m r) (step m s n r (all .0 .is-due) (all .0 .none-refuses)) (suc n) (all .1)
+
+-- READS THROUGH: records that pass are read one after the other, and the reading goes on with what follows
+pub reads-through : (records : List Record) (rest : List ℕ) (m : MonthFile) → Sound m → (n : ℕ) → AllPass m n records
+    → readFrom (bytesOfAll records ++ rest) n m ≡ readFrom rest (n + length records) (withAll m records)
+unfolding bytesOfAll withAll
+reads-through [] rest m s n all = ap (λ (k : ℕ). readFrom rest k m) (omega arith)
+reads-through (r ∷ records) rest m s n all =
+    let more : List ℕ = bytesOfAll records ++ rest in
+    let p : Passes m n r = all .0 in
+    ap (λ (bytes : List ℕ). readFrom bytes n m) (append-assoc (recordBytes r) (bytesOfAll records) rest)
+    ∙ one-record m s n r (p .is-due) (p .none-refuses) (no-count r (p .not-the-end)) more
+    ∙ ap (λ (ends : Bool). cond ends (closed m (suc n) more) (readFrom more (suc n) (with m r))) (p .not-the-end)
+    ∙ reads-through records rest (with m r) (step m s n r (p .is-due) (p .none-refuses)) (suc n) (all .1)
+    ∙ ap (λ (k : ℕ). readFrom rest k (withAll (with m r) records)) (omega arith)
+
+-- every record has a byte
+a-byte-each : (records : List Record) → length records ≤ length (bytesOfAll records)
+unfolding bytesOfAll recordBytes
+a-byte-each [] = omega arith
+a-byte-each (r ∷ records) = omega (arith, a-byte-each records, length-append (recordBytes r) (bytesOfAll records))
+
+-- WHERE A READING STOPS, once n records have passed: nothing is left; a check refuses; or the right end stands there, whatever follows it
+pub data Stop (m : MonthFile) (n : ℕ) (rest : List ℕ) : Type 0 where
+  nothing-left : rest ≡ [] → Stop m n rest
+  check-refuses : 1 ≤ length rest → (r : Refusal) (place : ℕ) → first (recordChecks m n rest) ≡ refused r place → Stop m n rest
+  right-end : due m (end n) ≡ true → (after : List ℕ) → rest ≡ recordBytes (end n) ++ after → Stop m n rest
+
+-- what the reading answers there
+abbrev pub answerAt : (m : MonthFile) (n : ℕ) (rest : List ℕ) → Stop m n rest → Answer MonthFile
+answerAt m n rest (nothing-left e) = refusal fileFault n
+answerAt m n rest (check-refuses some r place e) = refusal r place
+answerAt m n rest (right-end d after e) = closed m (suc n) after
+
+refuses-here : (m : MonthFile) (n : ℕ) (rest : List ℕ) → 1 ≤ length rest → (r : Refusal) (place : ℕ) → first (recordChecks m n rest) ≡ refused r place
+    → readFrom rest n m ≡ refusal r place
+unfolding onward
+refuses-here m n [] some r place e = absurd (omega arith)
+refuses-here m n (kind ∷ body) some r place e =
+    from-a-record kind body n m ∙ ap (λ (v : Verdict). onward v (onFrom (recordAt (kind ∷ body)) (drop (bodyLength kind) body) n m)) e
+
+end-held : (n : ℕ) → n < 256 ^ 4 → CountHeld (end n)
+end-held n b count is = let same : n ≡ count = cc in omega arith
+
+stops-so : (m : MonthFile) → Sound m → (n : ℕ) → n < 256 ^ 4 → (rest : List ℕ) (stop : Stop m n rest) → readFrom rest n m ≡ answerAt m n rest stop
+unfolding readOn isEnd checks
+stops-so m s n b rest (nothing-left e) = ap (λ (bytes : List ℕ). readFrom bytes n m) e
+stops-so m s n b rest (check-refuses some r place e) = refuses-here m n rest some r place e
+stops-so m s n b rest (right-end d after e) =
+    ap (λ (bytes : List ℕ). readFrom bytes n m) e
+    ∙ one-record m s n (end n) d (unless-exactly (eqb n n) _ _ .1 (eq-eqb n n refl), tt) (end-held n b) after
+
+-- THE COURSE OF A READING: any bytes are those of records that pass, and of a rest at which it stops
+pub record Course (m : MonthFile) (n : ℕ) (bytes : List ℕ) : Type 0 where
+  pub passed : List Record
+  pub rest : List ℕ
+  pub split : bytes ≡ bytesOfAll passed ++ rest
+  pub all-pass : AllPass m n passed
+  pub stop : Stop (withAll m passed) (n + length passed) rest
+
+-- the reading stops where it stands
+stopped : {m : MonthFile} {n : ℕ} {bytes : List ℕ} → Stop m n bytes → Course m n bytes
+unfolding bytesOfAll withAll
+stopped {m} {n} {bytes} at-once =
+    record { passed = []; rest = bytes; split = refl; all-pass = tt; stop = subst (λ (k : ℕ). Stop m k bytes) (omega arith) at-once }
+
+-- or one more record passes
+one-passes : (m : MonthFile) (n : ℕ) (bytes : List ℕ) (r : Record) (left : List ℕ) → bytes ≡ recordBytes r ++ left → Passes m n r → Course (with m r) (suc n) left → Course m n bytes
+unfolding bytesOfAll withAll
+one-passes m n bytes r left e p next =
+    record {
+      passed = r ∷ next .passed;
+      rest = next .rest;
+      split = e ∙ ap (λ (l : List ℕ). recordBytes r ++ l) (next .split) ∙ sym (append-assoc (recordBytes r) (bytesOfAll (next .passed)) (next .rest));
+      all-pass = (p, next .all-pass);
+      stop = subst (λ (k : ℕ). Stop (withAll (with m r) (next .passed)) k (next .rest)) (omega arith) (next .stop);
+    }
+
+-- a record that stands at the start of some bytes, and none of whose checks refuses
+record Stands (m : MonthFile) (n : ℕ) (bytes : List ℕ) (r : Record) (left : List ℕ) : Type 0 where
+  bytes-are : bytes ≡ recordBytes r ++ left
+  is-due : due m r ≡ true
+  none-refuses : NoneRefuses (checks (inFile m n) r)
+
+given-alone : (bytes : List ℕ) → 1 ≤ length bytes → known (kindAt bytes) ≡ true → leb (1 + bodyLength (kindAt bytes)) (length bytes) ≡ true
+    → NoneRefuses (checks alone (recordAt bytes)) → readAlone bytes ≡ given (recordAt bytes)
+unfolding readAlone first andThen unless answer
+given-alone bytes some known-kind fits none = rw (le-leb 1 (length bytes) some, known-kind, fits, accepted-exactly (checks alone (recordAt bytes)) .1 none)
+
+stands : (m : MonthFile) → Sound m → (n kind : ℕ) (body : List ℕ) → Bytes (kind ∷ body) → first (recordChecks m n (kind ∷ body)) ≡ accepted
+    → Stands m n (kind ∷ body) (recordAt (kind ∷ body)) (drop (bodyLength kind) body)
+unfolding recordChecks kindAt at
+stands m s n kind body small e =
+    let bytes : List ℕ = kind ∷ body in
+    let r : Record = recordAt bytes in
+    let passed = accepted-exactly (recordChecks m n bytes) .0 e in
+    let known-kind : known kind ≡ true = unless-exactly (known kind) _ _ .0 (passed .0) in
+    let fits : leb (1 + bodyLength kind) (length bytes) ≡ true = unless-exactly _ _ _ .0 (passed .1 .0) in
+    let same : recordBytes r ≡ take (1 + bodyLength kind) bytes = written-of-read bytes r small (given-alone bytes (omega arith) known-kind fits (alone-too m s n r (passed .1 .1 .1))) in
+    record {
+      bytes-are =
+          sym (take-append-drop (suc (bodyLength kind)) bytes)
+          ∙ ap (λ (l : List ℕ). l ++ drop (bodyLength kind) body) (ap (λ (k : ℕ). take k bytes) (sym (one-add (bodyLength kind))) ∙ sym same);
+      is-due = unless-exactly (due m r) _ _ .0 (passed .1 .1 .0);
+      none-refuses = passed .1 .1 .1;
+    }
+
+-- an end that stands rightly has the number of records before it
+the-end-here : (m : MonthFile) (n : ℕ) (bytes : List ℕ) (r : Record) (left : List ℕ) → isEnd r ≡ true → Stands m n bytes r left → Stop m n bytes
+unfolding isEnd checks
+the-end-here m n bytes (end count) left e here =
+    let same : count ≡ n = eqb-true count n (unless-exactly (eqb count n) _ _ .0 (here .none-refuses .0)) in
+    right-end (subst (λ (k : ℕ). due m (end k) ≡ true) same (here .is-due)) left (here .bytes-are ∙ ap (λ (k : ℕ). recordBytes (end k) ++ left) same)
+the-end-here m n bytes (heading h) left e here = absurd (true-not-false (sym e))
+the-end-here m n bytes (party p) left e here = absurd (true-not-false (sym e))
+the-end-here m n bytes (fixedHour hour f) left e here = absurd (true-not-false (sym e))
+the-end-here m n bytes (reading r) left e here = absurd (true-not-false (sym e))
+the-end-here m n bytes (price hour p) left e here = absurd (true-not-false (sym e))
+the-end-here m n bytes (refixedHour hour f) left e here = absurd (true-not-false (sym e))
+
+-- by the verdict on the record that stands first, and by whether it is the end
+module _ (m : MonthFile) (s : Sound m) (n kind : ℕ) (body : List ℕ) (small : Bytes (kind ∷ body)) where
+  abbrev here : Record
+  here = recordAt (kind ∷ body)
+
+  abbrev left : List ℕ
+  left = drop (bodyLength kind) body
+
+  module _ (next : Sound (with m here) → Course (with m here) (suc n) left) where
+    by-its-kind : (ends : Bool) → isEnd here ≡ ends → Stands m n (kind ∷ body) here left → Course m n (kind ∷ body)
+    by-its-kind true e stands-here = stopped (the-end-here m n (kind ∷ body) here left e stands-here)
+    by-its-kind false e stands-here =
+        one-passes m n (kind ∷ body) here left (stands-here .bytes-are)
+        (record { not-the-end = e; is-due = stands-here .is-due; none-refuses = stands-here .none-refuses })
+        (next (step m s n here (stands-here .is-due) (stands-here .none-refuses)))
+
+    by-its-verdict : (v : Verdict) → first (recordChecks m n (kind ∷ body)) ≡ v → Course m n (kind ∷ body)
+    by-its-verdict accepted e = by-its-kind (isEnd here) refl (stands m s n kind body small e)
+    by-its-verdict (refused why place) e = stopped (check-refuses (omega arith) why place e)
+
+course : (more : ℕ) (bytes : List ℕ) → length bytes ≤ more → Bytes bytes → (m : MonthFile) → Sound m → (n : ℕ) → Course m n bytes
+course zero [] enough small m s n = stopped (nothing-left refl)
+course zero (kind ∷ body) enough small m s n = absurd (omega arith)
+course (suc more) [] enough small m s n = stopped (nothing-left refl)
+course (suc more) (kind ∷ body) enough small m s n =
+    by-its-verdict m s n kind body small
+    (λ s′.
+    course more (drop (bodyLength kind) body) (omega (arith, length-drop (bodyLength kind) body)) (bytes-drop (suc (bodyLength kind)) (kind ∷ body) small)
+    (with m (recordAt (kind ∷ body)))
+    s′
+    (suc n))
+    (first (recordChecks m n (kind ∷ body)))
+    refl
+
+-- THE COURSE OF A WHOLE FILE of the right length, and what is answered where it stops
+pub file-course : (file : List ℕ) → Bytes file → Course nothingYet 0 file
+file-course file small = course (length file) file (omega arith) small nothingYet nothing-is-sound 0
+
+pub answer-of-course : (file : List ℕ) → within 1 longestFile (length file) ≡ true → (c : Course nothingYet 0 file)
+    → readMonth file ≡ answerAt (withAll nothingYet (c .passed)) (0 + length (c .passed)) (c .rest) (c .stop)
+unfolding readMonth
+answer-of-course file fits c =
+    let sound : Sound (withAll nothingYet (c .passed)) = sound-after (c .passed) nothingYet nothing-is-sound 0 (c .all-pass) in
+    let few : length (c .passed) ≤ length file = omega (arith, a-byte-each (c .passed), ap length (c .split), length-append (bytesOfAll (c .passed)) (c .rest)) in
+    let short : length file ≤ longestFile = within-is 1 longestFile (length file) fits .1 in
+    ap (λ (t : Bool). cond t (readFrom file 0 nothingYet) (refusal fileFault 0)) fits
+    ∙ ap (λ (bytes : List ℕ). readFrom bytes 0 nothingYet) (c .split)
+    ∙ reads-through (c .passed) (c .rest) nothingYet nothing-is-sound 0 (c .all-pass)
+    ∙ stops-so (withAll nothingYet (c .passed)) sound (0 + length (c .passed)) (omega arith) (c .rest) (c .stop)
