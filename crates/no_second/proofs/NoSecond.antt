@@ -83,7 +83,7 @@ records =
       fault = λ r gln hours parties place a b p q. fault-once hours parties place gln r a b p q;
       read-alone = λ part r s p q. read-once _ r s p q;
       write = λ r gln lent v w p q i. (write-once (v .0) (w .0) (p .0) (q .0) i, (p .1 ∙ sym (q .1)) i);
-      write-plain = λ kind numbers gln lent v w p q i. (write-once (v .0) (w .0) (p .0) (q .0) i, (p .1 ∙ sym (q .1)) i);
+      write-plain = λ kind numbers gln lent v w p q i. (write-once (v .0) (w .0) (p .answer) (q .answer) i, (p .contents ∙ sym (q .contents)) i);
     }
 
 whole-files : WholeFiles

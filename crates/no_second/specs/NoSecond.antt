@@ -25,7 +25,7 @@ use Rattle.reconcile_service.specs.declared.Reconciled.{Reconciled}
 use Rattle.record.specs.Record.{recordOf, faultOf, glnBytes, told}
 use Rattle.record.specs.declared.Read.{Read}
 use Rattle.record.specs.declared.Record.{Record}
-use Rattle.record_service.specs.Plain.{plainVerdict, plainRecord}
+use Rattle.record_service.specs.Plain as Plain
 use Rattle.record_write.specs.Writing.{wrote}
 use Rattle.record_write.specs.declared.Written.{Written}
 use Rattle.residual.specs.Applied.{appliedOf}
@@ -141,10 +141,7 @@ pub record Records : Type 0 where
       × (w .1 ≡ afterwards (writeVerdict (recordOf gln r) (length lent)) (written (recordOf gln r) lent) lent))
   pub write-plain :
       (kind : ℕ) (numbers : List ℤ) (gln lent : List ℕ)
-      → OneFits
-      (λ (w : Written × List ℕ).
-      (wrote (w .0) ≡ answer (plainVerdict kind numbers gln (length lent)) (length (recordBytes (recordOf gln (plainRecord kind numbers)))))
-      × (w .1 ≡ afterwards (plainVerdict kind numbers gln (length lent)) (written (recordOf gln (plainRecord kind numbers)) lent) lent))
+      → OneFits (λ (w : Written × List ℕ). Plain.Promised kind numbers gln lent (w .0) (w .1))
 
 -- the lent outputs of a run of hours, by their names
 pub record RunOutputs : Type 0 where

@@ -32,6 +32,7 @@ pub mod Periodised
 pub mod Reconciliation
 pub mod Gln
 pub mod Record
+pub mod PlainRecord
 pub mod MonthFile
 pub mod Month
 pub mod Services
