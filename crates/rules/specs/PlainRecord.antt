@@ -1,6 +1,6 @@
 -- THE RECORD WRITER ON PLAIN NUMBERS: the kind is a number and the fields are a list of numbers, with a party's GLN beside them. So the kind may be unknown,
 -- which a record's can not: "The record writer tests 2, 4, 5, 11, 12 and then 16, all at place 0" (01 "Refusal numbers"). And the list may have another length
--- than the kind has fields, or a number that its field can not hold: that one "is judged as if the field could" (READINGS A43, as all that is quoted below).
+-- than the kind has fields, or a number that its field can not hold: that one "is judged as if the field could" (READINGS A43; quoted below, too).
 use mathlib.Core.Bool.{Bool, true, false, cond, _&&_}
 use mathlib.Core.List.{List, [], _∷_}
 use Prim.Native.Nat.{ℕ, _^_}
@@ -57,7 +57,7 @@ standIn (signedNumber s ∷ fields) [] = false
 standIn (signedNumber s ∷ fields) (z ∷ numbers) = standIn fields numbers
 standIn (digits gln ∷ fields) numbers = standIn fields numbers
 
--- 4: "the end count may be any 4 bytes", and no more than they hold. (Every other field has a rule of its own, which a number beyond its field fails.)
+-- 4: "the end count may be any 4 bytes" (01), and no more than they hold. (Every other field has a rule of its own, which a number beyond its field fails.)
 unfoldable pub countHeld : ℕ → List ℤ → Bool
 countHeld kind numbers = cond (eqb kind endKind) (ltb (nthNoSign numbers 0) (256 ^ 4)) true
 
