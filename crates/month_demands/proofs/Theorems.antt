@@ -23,13 +23,13 @@ use Rattle.rules.specs.Refusals.{Refusal, wrongLength, Verdict, accepted, refus
 use Rattle.rules.specs.Services.{atℤ}
 use Rattle.rules.specs.Words.{sum, sumℤ, at, figures}
 use Rattle.rules.proofs.Integers.{sumℤ-cong, sumℤ-swap}
+use Rattle.rules.proofs.Readings.{accepted-month-of-readings}
 use Rattle.rules.proofs.Loops.{figures-length, figures-at}
 use Rattle.rules.proofs.Month.{Judged, accepted-is-judged, heading-right, W-in-range, fixed-hours-have, every-hour-has-its-figure, demand-3-of-the-month, hour-differences-add-up, all-distributed, all-differences, all-amounts}
-use Rattle.rules.proofs.Readings.{periodised-of-readings, accepted-follows}
 use Rattle.rules.proofs.Reconciliation.{one-carries-the-loss}
 use Rattle.rules.proofs.Refusals.{refused-not-accepted, accepted-exactly, refused-exactly, both-accept, unless-exactly}
 use Rattle.rules.proofs.Sums.{sum-cong, sum-swap}
-use Rattle.rules.proofs.Whole.{Whole, what-is-read-is-whole}
+use Rattle.rules.proofs.Whole.{what-is-read-is-whole}
 
 -- The verdict can be read back from what an answer tells.
 abbrev verdictTold : Answer Summary → Verdict
@@ -191,15 +191,12 @@ module _ {file : List ℕ} {r : Settlement} (lent held : Outputs) (is : Kept fil
     read-as : readMonth file ≡ given m
     read-as = none .read ∙ ap given (sym its-month)
 
-    whole : Whole m
-    whole = what-is-read-is-whole file read-as
-
     its-checks : monthVerdict m ≡ accepted
     unfolding monthVerdict
     its-checks = ap monthVerdict its-month ∙ accepted-exactly (monthChecks (none .month)) .1 (none .no-check-refuses)
 
     judged : Judged m
-    judged = accepted-is-judged m whole its-checks
+    judged = accepted-is-judged m (what-is-read-is-whole file read-as) its-checks
 
     holds-distributed : held .distributed ≡ figures (P m) (monthDistributed m)
     holds-distributed = now-held (lent .distributed) ok (is .distributed)
@@ -234,7 +231,7 @@ module _ {file : List ℕ} {r : Settlement} (lent held : Outputs) (is : Kept fil
           distributed-since-first = λ i b. signed-at (P m) (monthDistributed m) holds-distributed i b ∙ since-first m i;
           distributed-sums = signed-at (P m) (monthDistributed m) holds-distributed;
           periodised-sums = unsigned-at (P m) (monthPeriodised m) holds-periodised;
-          periodised-of-readings = λ i b. unsigned-at (P m) (monthPeriodised m) holds-periodised i b ∙ periodised-of-readings m whole (accepted-follows m its-checks) i;
+          periodised-of-readings = λ i b. unsigned-at (P m) (monthPeriodised m) holds-periodised i b ∙ accepted-month-of-readings m (what-is-read-is-whole file read-as) its-checks i;
           loss-sums = signed-at (P m) (monthLoss m) holds-losses;
           difference-sums = signed-at (P m) (monthDifference m) holds-differences;
           amount-sums = signed-at (P m) (monthAmount m) holds-amounts;

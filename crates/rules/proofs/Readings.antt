@@ -87,7 +87,8 @@ module _ (m : MonthFile) (whole : Whole m) (followed : (j : ℕ) → j < length 
       sym (sum-swap (length (m .readings)) (H m) (λ t j. figureFor m t i j)) ∙ sum-cong (length (m .readings)) (of-one i)
 
 -- and so it is of every accepted month
-pub accepted-follows : (m : MonthFile) → monthVerdict m ≡ accepted → (j : ℕ) → j < length (m .readings) → readingVerdict m j ≡ accepted
+pub accepted-month-of-readings : (m : MonthFile) → Whole m → monthVerdict m ≡ accepted → (i : ℕ) → monthPeriodised m i ≡ readEnergy m i
 unfolding monthVerdict monthChecks
-accepted-follows m ok j b =
-    in-turn-exactly (length (m .readings)) (readingVerdict m) .0 (accepted-exactly (monthChecks m) .0 ok .1 .1 .1 .1 .0) j b
+accepted-month-of-readings m whole ok =
+    periodised-of-readings m whole
+    (in-turn-exactly (length (m .readings)) (readingVerdict m) .0 (accepted-exactly (monthChecks m) .0 ok .1 .1 .1 .1 .0))

@@ -32,9 +32,9 @@ pub mod Periodised
 pub mod Reconciliation
 pub mod Gln
 pub mod Record
-pub mod PlainRecord
 pub mod MonthFile
 pub mod Month
+pub mod PlainRecord
 pub mod Services
 pub mod Statement
 pub mod HoursReport

@@ -1,6 +1,7 @@
 -- THE RECORD WRITER ON PLAIN NUMBERS: the kind is a number and the fields are a list of numbers, with a party's GLN beside them. So the kind may be unknown,
 -- which a record's can not: "The record writer tests 2, 4, 5, 11, 12 and then 16, all at place 0" (01 "Refusal numbers"). And the list may have another length
 -- than the kind has fields, or a number that its field can not hold: that one "is judged as if the field could" (READINGS A43; quoted below, too).
+-- A new kind is one clause of `plainRecord`.
 use mathlib.Core.Bool.{Bool, true, false, cond, _&&_}
 use mathlib.Core.List.{List, [], _∷_}
 use Prim.Native.Nat.{ℕ, _^_}

@@ -1,6 +1,6 @@
 -- WHAT A RECORD KIND IS (01 "The month file"), all of it here: its number, its fields and their widths, the record that its fields are and back, what a
 -- record adds to the month, when it is due and what is tested of it. A new kind is one entry or clause of `layouts`, `Record`, `recordFrom`, `kindOf`,
--- `fieldsOf`, `with`, `due` and `checks`, and of `plainRecord` (PlainRecord).
+-- `fieldsOf`, `with`, `due` and `checks`.
 use mathlib.Core.Bool.{Bool, true, cond, _&&_, _||_}
 use mathlib.Core.List.{List, [], _∷_, _++_}
 use Prim.Native.Nat.{ℕ, zero, suc, _+_, _-_, _*_, _^_, _/_, _%_}
