@@ -24,6 +24,7 @@ use Rattle.rules.specs.Services.{atℤ}
 use Rattle.rules.specs.WellFormed.{Bytes}
 use Rattle.rules.specs.Words.{sum, sumℤ, at, figures}
 use Rattle.rules.proofs.Integers.{sumℤ-cong, sumℤ-swap}
+use Rattle.rules.proofs.Readings.{accepted-month-of-readings}
 use Rattle.rules.proofs.Loops.{figures-length, figures-at}
 use Rattle.rules.proofs.Month.{Judged, accepted-is-judged, heading-right, W-in-range, fixed-hours-have, every-hour-has-its-figure, demand-3-of-the-month, hour-differences-add-up, all-distributed, all-differences, all-amounts}
 use Rattle.rules.proofs.ReadingRefused.{reading-refused-exactly}
@@ -212,11 +213,12 @@ module _ {file : List ℕ} {r : Settlement} (lent held : Outputs) (is : Kept fil
     read-as : readMonth file ≡ given m
     read-as = none .read ∙ ap given (sym its-month)
 
-    judged : Judged m
+    its-checks : monthVerdict m ≡ accepted
     unfolding monthVerdict
-    judged =
-        accepted-is-judged m (what-is-read-is-whole file read-as)
-        (ap monthVerdict its-month ∙ accepted-exactly (monthChecks (none .month)) .1 (none .no-check-refuses))
+    its-checks = ap monthVerdict its-month ∙ accepted-exactly (monthChecks (none .month)) .1 (none .no-check-refuses)
+
+    judged : Judged m
+    judged = accepted-is-judged m (what-is-read-is-whole file read-as) its-checks
 
     holds-distributed : held .distributed ≡ figures (P m) (monthDistributed m)
     holds-distributed = now-held (lent .distributed) ok (is .distributed)
@@ -251,6 +253,7 @@ module _ {file : List ℕ} {r : Settlement} (lent held : Outputs) (is : Kept fil
           distributed-since-first = λ i b. signed-at (P m) (monthDistributed m) holds-distributed i b ∙ since-first m i;
           distributed-sums = signed-at (P m) (monthDistributed m) holds-distributed;
           periodised-sums = unsigned-at (P m) (monthPeriodised m) holds-periodised;
+          periodised-of-readings = λ i b. unsigned-at (P m) (monthPeriodised m) holds-periodised i b ∙ accepted-month-of-readings m (what-is-read-is-whole file read-as) its-checks i;
           loss-sums = signed-at (P m) (monthLoss m) holds-losses;
           difference-sums = signed-at (P m) (monthDifference m) holds-differences;
           amount-sums = signed-at (P m) (monthAmount m) holds-amounts;

@@ -12,7 +12,7 @@ use Rattle.rules.specs.Accepted.{NoneRefuses, FirstRefuses}
 use Rattle.rules.specs.Demands.{sumSinceFirst, Demand3}
 use Rattle.rules.specs.Flows.{residual}
 use Rattle.rules.specs.Limits.{greatestW, greatestResidual}
-use Rattle.rules.specs.Month.{flowsAt, shareOf, monthW, appliedFlows, appliedWh, distributed, periodised, allPeriodised, loss, difference, amount, monthChecks}
+use Rattle.rules.specs.Month.{flowsAt, shareOf, monthW, appliedFlows, appliedWh, distributed, periodised, allPeriodised, loss, difference, amount, readEnergy, monthChecks}
 use Rattle.rules.specs.MonthFile.{MonthFile, H, P, readMonth}
 use Rattle.rules.specs.Reconciliation.{lossOf}
 use Rattle.rules.specs.ReadingRefused.{ReadingRefuses}
@@ -100,6 +100,8 @@ pub record MonthMeets (file : List ℕ) (m : MonthFile) (held : Outputs) : Type 
   pub distributed-sums : (i : ℕ) → i < P m → atℤ (held .distributed) i ≡ sumℤ (H m) (λ t. distributed m t i)
   -- "periodised .. (month sums in Wh)"
   pub periodised-sums : (i : ℕ) → i < P m → at (held .periodised) i ≡ sum (H m) (λ t. periodised m t i)
+  -- and that is the sum of the E of the party's readings
+  pub periodised-of-readings : (i : ℕ) → i < P m → at (held .periodised) i ≡ readEnergy m i
   -- "loss .. (month sums in Wh)", "Loss is 0 for all but the carrier."
   pub loss-sums : (i : ℕ) → i < P m → atℤ (held .losses) i ≡ sumℤ (H m) (λ t. lossOf (m .heading .carrier) (loss m t) i)
   -- "difference (month sums in Wh)"

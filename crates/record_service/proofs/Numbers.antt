@@ -5,7 +5,7 @@ use mathlib.Core.Path.{_≡_, refl, sym, _∙_, ap}
 use Prim.Native.Nat.{ℕ, suc, _+_, _≤_, _<_, zero-le}
 use native.Mathlib.Numerals.{add-one}
 use native.Mathlib.Omega.{arith}
-use borrow.Author.Tests.{le-leb, lt-leb, leb-false, not-true, not-false}
+use borrow.Author.Tests.{le-leb, lt-leb, not-true, not-false}
 use lib.Dec.{eqb, leb, leb·suc-suc}
 use lib.IntN.{ℤ, pos, negsuc, natAbs}
 use lib.ListN.{length, getD, drop, drop-of-length-le}
@@ -14,7 +14,7 @@ use lib.Signed.{mag, leZ}
 use mir.Facts.{toZ-ofZ}
 use mir.Syntax.{w64}
 use mir.Val.{SFits, toZ, ofZ}
-use Rattle.record_service.specs.Plain.{signsFrom, heldIn}
+use Rattle.record_service.specs.Held.{signsFrom, heldIn}
 use Rattle.record_write.proofs.Complement.{above, below}
 
 -- an end count within four bytes
@@ -81,12 +81,3 @@ module _ {signed : ℕ} {numbers : List ℤ} {i : ℕ} (h : Signing signed numbe
 pub sign-end : {signed : ℕ} {numbers : List ℤ} {i : ℕ} → Signing signed numbers i → length numbers ≤ i → true ≡ signsFrom signed 0 numbers
 unfolding signsFrom
 sign-end {signed} {numbers} {i} h b = ap (signsFrom signed i) (sym (drop-of-length-le numbers b)) ∙ h .left
-
--- A NUMBER OUTSIDE ITS RANGE STAYS OUTSIDE: a range that ends below what a field can hold judges the number and what is held of it alike
-pub stays-outside : (limit most n : ℕ) → limit < most → leb (heldIn most (pos n)) limit ≡ leb n limit
-unfolding heldIn
-stays-outside limit most n h = judged (leb n most) refl
-  where
-    judged : (t : Bool) → leb n most ≡ t → leb (cond t n most) limit ≡ leb n limit
-    judged true e = refl
-    judged false e = lt-leb most limit h ∙ sym (lt-leb n limit (omega (arith, leb-false n most e)))

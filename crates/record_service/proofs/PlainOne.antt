@@ -1,25 +1,32 @@
 -- The plain entry point: each test of the list is one of the rule's, and then the writer's own verdict counts.
 use mathlib.Core.Bool.{Bool, true, false, not, _&&_, _||_}
 use mathlib.Core.List.{List}
-use mathlib.Core.Path.{_≡_, refl, sym, _∙_, ap}
+use mathlib.Core.Path.{_≡_, refl, sym, _∙_, ap, subst}
 use Prim.Native.Nat.{ℕ, _≤_, _<_}
 use native.Mathlib.Omega.{arith}
 use borrow.Author.Tests.{le-leb, lt-leb, eq-eqb, ne-eqb, not-true, not-false, eqb-true}
 use lib.Dec.{eqb, leb}
 use lib.IntN.{ℤ, natAbs}
 use lib.ListN.{length}
-use Rattle.record_service.specs.Plain.{fieldCount, signedPlace, signsFrom, nth, plainRight, plainRecord, plainVerdict}
 use Rattle.record.specs.Record.{recordOf}
-use Rattle.rules.specs.Record.{endKind, bodyLength, known, writeVerdict}
-use Rattle.rules.specs.Refusals.{unknownKind, outOfRange, Answer, refusal, unless, andThen, answer, afterwards}
+use Rattle.record_service.specs.Held.{fieldCount, signedPlace, signsFrom, listRight, heldRecord}
+use Rattle.record_service.specs.Plain.{Promised}
+use Rattle.record_service.proofs.Alike.{judged-alike, accepted-same, right-as-the-rules}
+use Rattle.record_write.specs.Writing.{wrote, roomFor}
+use Rattle.record_write.specs.declared.Written.{Written}
+use Rattle.record_write.proofs.WriteOne.{verdict-is}
+use Rattle.record_write.proofs.WriteOne as W
+use Rattle.rules.specs.PlainRecord.{nth, plainRecord, standIn, countHeld, plainVerdict}
+use Rattle.rules.specs.Record.{Record, endKind, bodyLength, known, fieldsOf, alone, checks, writeVerdict}
+use Rattle.rules.specs.Refusals.{unknownKind, outOfRange, Verdict, accepted, refused, Answer, refusal, unless, andThen, first, answer, afterwards}
 use Rattle.rules.proofs.EachKind.{kind-is-a-byte}
+use Rattle.rules.proofs.Refusals.{then-accepted}
 use Rattle.rules.proofs.RoundTrip.{both-true}
-use Rattle.record_write.proofs.WriteOne.{Promised}
 
 -- 4 OF THE LIST
 module _ (kind : ℕ) (numbers : List ℤ) {n : ℕ} (count : n ≡ fieldCount kind) where
-  pub wrong-length : (length numbers ≡ n → ⊥) → false ≡ plainRight kind numbers
-  unfolding plainRight
+  pub wrong-length : (length numbers ≡ n → ⊥) → false ≡ listRight kind numbers
+  unfolding listRight
   wrong-length h = rw (ne-eqb (length numbers) (fieldCount kind) (λ e. h (e ∙ sym count)))
 
   module _ (right : length numbers ≡ n) {p : ℕ} (place : p ≡ signedPlace kind) {b : Bool} (signs : b ≡ signsFrom p 0 numbers) where
@@ -29,30 +36,26 @@ module _ (kind : ℕ) (numbers : List ℤ) {n : ℕ} (count : n ≡ fieldCount k
     all-signs : signsFrom (signedPlace kind) 0 numbers ≡ b
     all-signs = sym (signs ∙ ap (λ (q : ℕ). signsFrom q 0 numbers) place)
 
-    pub wrong-sign : not b ≡ true → false ≡ plainRight kind numbers
-    unfolding plainRight
+    pub wrong-sign : not b ≡ true → false ≡ listRight kind numbers
+    unfolding listRight
     wrong-sign e = rw (lengths, all-signs, not-true b e)
 
     module _ (e : not b ≡ false) where
-      pub no-end : (kind ≡ endKind → ⊥) → true ≡ plainRight kind numbers
-      unfolding plainRight
+      pub no-end : (kind ≡ endKind → ⊥) → true ≡ listRight kind numbers
+      unfolding listRight
       no-end h = rw (lengths, all-signs, not-false b e, ne-eqb kind endKind h)
 
-      pub end-count : kind ≡ endKind → {t : Bool} → t ≡ leb (natAbs (nth numbers 0)) 4294967295 → t ≡ plainRight kind numbers
-      unfolding plainRight
+      pub end-count : kind ≡ endKind → {t : Bool} → t ≡ leb (natAbs (nth numbers 0)) 4294967295 → t ≡ listRight kind numbers
+      unfolding listRight
       end-count h q = q ∙ rw (lengths, all-signs, not-false b e, eq-eqb kind endKind h)
 
-pub right-length : (kind : ℕ) (numbers : List ℤ) → plainRight kind numbers ≡ true → length numbers ≡ fieldCount kind
-unfolding plainRight
+pub right-length : (kind : ℕ) (numbers : List ℤ) → listRight kind numbers ≡ true → length numbers ≡ fieldCount kind
+unfolding listRight
 right-length kind numbers e =
     eqb-true (length numbers) (fieldCount kind)
     (both-true (eqb (length numbers) (fieldCount kind)) (signsFrom (signedPlace kind) 0 numbers)
     (both-true (eqb (length numbers) (fieldCount kind) && signsFrom (signedPlace kind) 0 numbers) (not (eqb kind endKind) || leb (natAbs (nth numbers 0)) 4294967295) e .0)
     .0)
-
--- what a kind has as many numbers as: at the kind itself, its figure
-pub counted : (kind k : ℕ) (numbers : List ℤ) → length numbers ≡ fieldCount kind → kind ≡ k → length numbers ≡ fieldCount k
-counted kind k numbers e is = e ∙ ap fieldCount is
 
 -- 2: a kind is one byte, and a known one has a body
 known-by : (kind : ℕ) (t : Bool) → known kind ≡ t → (known kind ≡ true → ⊥) → known kind ≡ false
@@ -72,19 +75,45 @@ has-body kind h = le-leb 1 (bodyLength kind) h
 
 -- THE WHOLE VERDICT
 module _ (kind : ℕ) (numbers : List ℤ) (gln out : List ℕ) where
-  abbrev PlainPromised : Answer ℕ → List ℕ → Type 0
-  PlainPromised a after = Promised (recordOf gln (plainRecord kind numbers)) out (plainVerdict kind numbers gln (length out)) a after
+  abbrev record-held : Record
+  record-held = recordOf gln (heldRecord kind numbers)
 
-  pub unknown : known kind ≡ false → PlainPromised (refusal unknownKind 0) out
-  unfolding plainVerdict andThen unless answer afterwards
-  unknown e = rw e (refl, refl)
+  abbrev record-is : Record
+  record-is = plainRecord kind numbers gln
 
-  module _ (has : known kind ≡ true) {b : Bool} (list : b ≡ plainRight kind numbers) where
-    pub wrong-list : not b ≡ true → PlainPromised (refusal outOfRange 0) out
-    unfolding plainVerdict andThen unless answer afterwards
-    wrong-list e = rw (has, ← list, not-true b e) (refl, refl)
+  pub unknown : known kind ≡ false → {w : Written} → wrote w ≡ refusal unknownKind 0 → Promised kind numbers gln out w out
+  unfolding plainVerdict first andThen unless answer afterwards
+  unknown e is = record { answer = rw e is; contents = rw e refl }
 
-    pub written-plain : not b ≡ false → {a : Answer ℕ} {after : List ℕ}
-        → Promised (recordOf gln (plainRecord kind numbers)) out (writeVerdict (recordOf gln (plainRecord kind numbers)) (length out)) a after → PlainPromised a after
-    unfolding plainVerdict andThen unless
-    written-plain e h = rw (has, ← list, not-false b e) h
+  module _ (has : known kind ≡ true) {b : Bool} (list : b ≡ listRight kind numbers) where
+    as-ruled : standIn (fieldsOf record-is) numbers && countHeld kind numbers ≡ b
+    as-ruled = sym (list ∙ right-as-the-rules numbers gln kind has)
+
+    pub wrong-list : not b ≡ true → {w : Written} → wrote w ≡ refusal outOfRange 0 → Promised kind numbers gln out w out
+    unfolding plainVerdict first andThen unless answer afterwards
+    wrong-list e is = record { answer = rw (has, as-ruled, not-true b e) is; contents = rw (has, as-ruled, not-true b e) refl }
+
+    module _ (e : not b ≡ false) where
+      passed : plainVerdict kind numbers gln (length out) ≡ writeVerdict record-is (length out)
+      unfolding plainVerdict first andThen unless
+      passed = rw (has, as-ruled, not-false b e) (then-accepted (writeVerdict record-is (length out)))
+
+      held-count : countHeld kind numbers ≡ true
+      held-count = both-true (standIn (fieldsOf record-is) numbers) (countHeld kind numbers) (as-ruled ∙ not-false b e) .1
+
+      -- the writer's promise of the record as it is held is that of the record itself
+      of-the-record : (v : Verdict) → first (checks alone record-is) ≡ v → {a : Answer ℕ} {after : List ℕ}
+          → W.Promised record-held out (writeVerdict record-held (length out)) a after
+          → W.Promised record-is out (writeVerdict record-is (length out)) a after
+      unfolding andThen answer afterwards
+      of-the-record accepted is {a} {after} h =
+          subst (λ (r : Record). W.Promised r out (writeVerdict r (length out)) a after) (accepted-same numbers gln kind has held-count is) h
+      of-the-record (refused r place) is h =
+          let held-refused = verdict-is record-held out ∙ ap (λ (v : Verdict). andThen v (roomFor record-held out)) (judged-alike numbers gln kind has held-count ∙ is) in
+          let is-refused = verdict-is record-is out ∙ ap (λ (v : Verdict). andThen v (roomFor record-is out)) is in
+          rw is-refused (rw held-refused at h)
+
+      pub written-plain : {w : Written} {after : List ℕ} → W.Promised record-held out (writeVerdict record-held (length out)) (wrote w) after → Promised kind numbers gln out w after
+      written-plain h =
+          let same = of-the-record (first (checks alone record-is)) refl h in
+          record { answer = rw passed (same .0); contents = rw passed (same .1) }

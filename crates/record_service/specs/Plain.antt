@@ -1,80 +1,19 @@
--- A record given as a kind and a list of numbers, for tests (01 "The record writer"): the kind may be unknown (2), the list may have another
--- length than the kind has fields, and a number may be one that its field can not hold (4, or 11 of a and b, or 12 of E).
-use mathlib.Core.Bool.{Bool, true, cond, not, _&&_, _||_}
-use mathlib.Core.List.{List, [], _∷_}
-use Prim.Native.Nat.{ℕ, suc}
-use lib.Dec.{eqb, leb}
-use lib.IntN.{ℤ, pos, negsuc, natAbs}
-use lib.ListN.{length, getD}
-use lib.Signed.{leZ}
-use Rattle.record.specs.Record.{recordOf}
-use Rattle.record.specs.declared.Heading as CHeading
-use Rattle.record.specs.declared.Flows as CFlows
-use Rattle.record.specs.declared.Reading as CReading
-use Rattle.record.specs.declared.Record.{Record}
-use Rattle.record.specs.declared.Record.the-variants.{Heading, Party, FixedHour, Reading, Price, RefixedHour, End}
-use Rattle.rules.specs.Record.{headingKind, partyKind, fixedHourKind, readingKind, priceKind, refixedHourKind, endKind, fieldWidths, known, writeVerdict}
-use Rattle.rules.specs.Refusals.{unknownKind, outOfRange, Verdict, unless, andThen}
+-- What the writer on plain numbers promises, in the words of the rules (`PlainRecord`).
+use mathlib.Core.List.{List}
+use mathlib.Core.Path.{_≡_}
+use Prim.Native.Nat.{ℕ}
+use lib.IntN.{ℤ}
+use lib.ListN.{length}
+use Rattle.record_write.specs.Writing.{wrote}
+use Rattle.record_write.specs.declared.Written.{Written}
+use Rattle.rules.specs.PlainRecord.{plainRecord, plainVerdict}
+use Rattle.rules.specs.Record.{recordBytes, written}
+use Rattle.rules.specs.Refusals as R
 
--- how many numbers a kind has: one for each field, but none for a party's GLN, which stands beside them
-unfoldable pub fieldCount : ℕ → ℕ
-fieldCount kind = cond (eqb kind partyKind) 1 (length (fieldWidths kind))
-
--- the place of the number that may be negative, an hour's net supply or the price; past the last place of the longest list where there is none
-unfoldable pub signedPlace : ℕ → ℕ
-signedPlace kind = cond (eqb kind fixedHourKind) 2 (cond (eqb kind refixedHourKind) 2 (cond (eqb kind priceKind) 1 6))
-
--- every number from place i on is 0 or more, but for the one that may be negative
-unfoldable pub signsFrom : ℕ → ℕ → List ℤ → Bool
-signsFrom signed i [] = true
-signsFrom signed i (z ∷ zs) = (eqb i signed || leZ (pos 0) z) && signsFrom signed (suc i) zs
-
-abbrev pub nth : List ℤ → ℕ → ℤ
-nth numbers k = getD numbers k (pos 0)
-
--- the list has the kind's length, no number is negative in an unsigned field, and an end count has room in its four bytes ("any 4 bytes" are good)
-unfoldable pub plainRight : ℕ → List ℤ → Bool
-plainRight kind numbers =
-    eqb (length numbers) (fieldCount kind) && signsFrom (signedPlace kind) 0 numbers
-    && (not (eqb kind endKind) || leb (natAbs (nth numbers 0)) 4294967295)
-
--- the nearest number of 0 .. most: one outside its range stays outside, since every range ends below what its field can hold
-unfoldable pub heldIn : ℕ → ℤ → ℕ
-heldIn most (pos n) = cond (leb n most) n most
-heldIn most (negsuc n) = 0
-
-unfoldable pub held : ℕ → List ℤ → ℕ → ℕ
-held most numbers k = heldIn most (nth numbers k)
-
-abbrev pub plainHeading : List ℤ → CHeading.Heading
-plainHeading l =
-    record { area = held 65535 l 0; year = held 65535 l 1; month = held 255 l 2; hours = held 65535 l 3; parties = held 255 l 4; carrier = held 255 l 5 }
-
-abbrev pub plainFlows : List ℤ → CFlows.Flows
-plainFlows l =
-    record {
-      status = held 255 l 1;
-      «net_wh» = nth l 2;
-      «production_wh» = held 18446744073709551615 l 3;
-      «hourly_wh» = held 18446744073709551615 l 4;
-      «flex_wh» = held 18446744073709551615 l 5;
-    }
-
-abbrev pub plainReading : List ℤ → CReading.Reading
-plainReading l = record { party = held 255 l 0; a = held 65535 l 1; b = held 65535 l 2; «e_wh» = held 4294967295 l 3 }
-
--- the record of a kind and its numbers; the kind that is none of the others is the end (an unknown one is refused first)
-unfoldable pub plainRecord : ℕ → List ℤ → Record
-plainRecord kind l =
-    cond (eqb kind headingKind) (Heading (plainHeading l))
-    (cond (eqb kind partyKind) (Party (held 18446744073709551615 l 0))
-    (cond (eqb kind fixedHourKind) (FixedHour (held 65535 l 0) (plainFlows l))
-    (cond (eqb kind readingKind) (Reading (plainReading l))
-    (cond (eqb kind priceKind) (Price (held 65535 l 0) (nth l 1))
-    (cond (eqb kind refixedHourKind) (RefixedHour (held 65535 l 0) (plainFlows l)) (End (held 4294967295 l 0)))))))
-
--- 2, then 4 of the list, then the writer's own
-unfoldable pub plainVerdict : ℕ → List ℤ → List ℕ → ℕ → Verdict
-plainVerdict kind numbers gln lent =
-    andThen (unless (known kind) unknownKind 0)
-    (andThen (unless (plainRight kind numbers) outOfRange 0) (writeVerdict (recordOf gln (plainRecord kind numbers)) lent))
+-- THE PROMISE: the answer is the number of bytes of the record that the numbers are, or the refusal; the lent part then holds these bytes at its start and
+-- nothing further on is touched, or refused it holds what it held
+pub record Promised (kind : ℕ) (numbers : List ℤ) (gln lent : List ℕ) (w : Written) (held : List ℕ) : Type 0 where
+  pub answer :
+      wrote w ≡ R.answer (plainVerdict kind numbers gln (length lent)) (length (recordBytes (plainRecord kind numbers gln)))
+  pub contents :
+      held ≡ R.afterwards (plainVerdict kind numbers gln (length lent)) (written (plainRecord kind numbers gln) lent) lent

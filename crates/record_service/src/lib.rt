@@ -12,12 +12,10 @@ ghost use lib.IntN.{pos, natAbs};
 ghost use lib.Signed.{leZ};
 ghost use Prim.Native.Nat.{_≤_, _<_};
 ghost use lib.ListN.{length};
-ghost use Rattle.record_service.specs.Plain.{fieldCount, signedPlace, signsFrom, plainRight, held, plainHeading, plainFlows, plainReading, plainRecord, plainVerdict};
-ghost use Rattle.record.specs.Record.{recordOf};
-ghost use Rattle.record_write.specs.Writing.{wrote};
+ghost use Rattle.record_service.specs.Held.{fieldCount, signedPlace, signsFrom, listRight, held, heldHeading, heldFlows, heldReading, heldRecord};
+ghost use Rattle.record_service.specs.Plain.{Promised};
 ghost use mathlib.Core.Bool.{true};
-ghost use Rattle.rules.specs.Record.{known, recordBytes, written};
-ghost use Rattle.rules.specs.Refusals.{afterwards, answer};
+ghost use Rattle.rules.specs.Record.{known};
 
 // Where no number of a kind may be negative: past the last place of the longest list.
 const NOWHERE: usize = 6;
@@ -124,7 +122,7 @@ fn u64_of(numbers: &[i64], k: usize) -> u64
 
 fn heading_of(numbers: &[i64]) -> Heading
     requires { ⌜ 6 ≤ length (now numbers) ⌝ }
-    ensures { λ r. ⌜ r ≡ plainHeading (now (numbers .entry)) ⌝ }
+    ensures { λ r. ⌜ r ≡ heldHeading (now (numbers .entry)) ⌝ }
 {
     Heading {
         area: u16_of(numbers, 0),
@@ -138,7 +136,7 @@ fn heading_of(numbers: &[i64]) -> Heading
 
 fn flows_of(numbers: &[i64]) -> Flows
     requires { ⌜ 6 ≤ length (now numbers) ⌝ }
-    ensures { λ r. ⌜ r ≡ plainFlows (now (numbers .entry)) ⌝ }
+    ensures { λ r. ⌜ r ≡ heldFlows (now (numbers .entry)) ⌝ }
 {
     Flows {
         status: u8_of(numbers, 1),
@@ -151,7 +149,7 @@ fn flows_of(numbers: &[i64]) -> Flows
 
 fn reading_of(numbers: &[i64]) -> Reading
     requires { ⌜ 4 ≤ length (now numbers) ⌝ }
-    ensures { λ r. ⌜ r ≡ plainReading (now (numbers .entry)) ⌝ }
+    ensures { λ r. ⌜ r ≡ heldReading (now (numbers .entry)) ⌝ }
 {
     Reading {
         party: u8_of(numbers, 0),
@@ -164,7 +162,7 @@ fn reading_of(numbers: &[i64]) -> Reading
 // The record of a kind and as many numbers as it has.
 fn record_of(sort: u8, numbers: &[i64]) -> Record
     requires { ⌜ (known sort ≡ true) × (length (now numbers) ≡ fieldCount sort) ⌝ }
-    ensures { λ r. ⌜ r ≡ plainRecord sort (now (numbers .entry)) ⌝ }
+    ensures { λ r. ⌜ r ≡ heldRecord sort (now (numbers .entry)) ⌝ }
 {
     match sort {
         kind::HEADING => Record::Heading(heading_of(numbers)),
@@ -180,7 +178,7 @@ fn record_of(sort: u8, numbers: &[i64]) -> Record
 // 4 of the list: another length, a negative number in an unsigned field, an end count beyond its four bytes.
 fn list_right(sort: u8, numbers: &[i64]) -> bool
     requires { ⌜ known sort ≡ true ⌝ }
-    ensures { λ b. ⌜ b ≡ plainRight sort (now (numbers .entry)) ⌝ }
+    ensures { λ b. ⌜ b ≡ listRight sort (now (numbers .entry)) ⌝ }
 {
     if numbers.len() != field_count(sort) {
         return false;
@@ -197,10 +195,7 @@ fn list_right(sort: u8, numbers: &[i64]) -> bool
 // The record writer on plain numbers: 2 first; then 4 where the list has another length than
 // the kind has fields, a number is negative in an unsigned field, or an end count is beyond its four bytes; then as the writer.
 pub fn write_plain(kind: u64, numbers: &[i64], gln: &[u8], out: &mut [u8]) -> Written
-    ensures answer { λ w. ⌜ wrote w ≡ answer (plainVerdict kind (now (numbers .entry)) (now (gln .entry)) (length (now (out .entry))))
-        (length (recordBytes (recordOf (now (gln .entry)) (plainRecord kind (now (numbers .entry)))))) ⌝ }
-    ensures contents { λ w. ⌜ now (out .exit) ≡ afterwards (plainVerdict kind (now (numbers .entry)) (now (gln .entry)) (length (now (out .entry))))
-        (written (recordOf (now (gln .entry)) (plainRecord kind (now (numbers .entry)))) (now (out .entry))) (now (out .entry)) ⌝ }
+    ensures { λ w. ⌜ Promised kind (now (numbers .entry)) (now (gln .entry)) (now (out .entry)) w (now (out .exit)) ⌝ }
 {
     if 255 < kind {
         return Written::Refused(Refusal::UnknownKind, 0);

@@ -12,6 +12,7 @@ use Rattle.rules.specs.Services.{reconciliationChecks, reconciliationLos
 use Rattle.rules.specs.Record.{layouts, widthsIn, fieldWidths, totalOf, bodyLength, known, numberOnto, bytesOf, signed, unsigned, cutInto, field, numberAt, signedAt, headingFrom}
 use Rattle.rules.specs.Record.{flowsFrom, readingFrom, neverAsked, recordFrom, kindAt, recordAt, fieldBytes, inWidths, hourFields, fieldsOf, recordBytes, nothingYet, H, P, with}
 use Rattle.rules.specs.Record.{due, risesAfter, headingInRange, hourInRange, checks, readAlone, writeVerdict, written}
+use Rattle.rules.specs.PlainRecord.{noSign, nthNoSign, plainHeading, plainFlows, plainReading, plainRecord, standIn, countHeld, plainVerdict}
 use Rattle.rules.specs.MonthFile.{recordChecks, isEnd, closed, onward, readOn, readMonth}
 use Rattle.rules.specs.Month.{partyAt, flowsAt, readingAt, priceAt, shareOf, monthW, fixedWh, appliedFlows, appliedWh, curve, distributed, weightOf, S, readingFigure, figureFor}
 use Rattle.rules.specs.Month.{periodised, allPeriodised, loss, difference, amount, monthDistributed, monthPeriodised, monthLoss, monthDifference, monthAmount, invoice, isEstimated}
@@ -81,6 +82,10 @@ records-3 = tt
 unfoldable pub records : Unit {0}
 unfolding records-1 records-2 records-3
 records = tt
+
+unfoldable pub plains : Unit {0}
+unfolding noSign nthNoSign plainHeading plainFlows plainReading plainRecord standIn countHeld plainVerdict
+plains = tt
 
 unfoldable pub files : Unit {0}
 unfolding recordChecks isEnd closed onward readOn readMonth

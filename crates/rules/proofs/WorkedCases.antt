@@ -1,10 +1,10 @@
 -- The cases of 01 marked P, each by computing the definitions.
 use mathlib.Core.Path.{refl}
-use Rattle.rules.specs.WorkedCases.{flows, WorkedCases}
+use Rattle.rules.specs.WorkedCases.{read, residualOf, curveOf, distributionOf, periodisationOf, WorkedCases}
 use Rattle.rules.proofs.Computed.{words, hours, parts, services}
 
 pub worked-cases : WorkedCases
-unfolding words hours parts services flows
+unfolding words hours parts services read residualOf curveOf distributionOf periodisationOf
 worked-cases =
     record {
       R1 = refl;
@@ -21,7 +21,6 @@ worked-cases =
       P2 = refl;
       P3 = refl;
       P3-nothing = refl;
-      P3-zeros = refl;
       M1 = refl;
       M1-negative = refl;
       M1-below = refl;

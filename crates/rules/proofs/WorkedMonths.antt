@@ -27,6 +27,7 @@ worked-months =
       refused-4-carrier = refl;
       refused-5-check-digit = refl;
       refused-5-not-rising = refl;
+      refused-5-third-below-second = refl;
       refused-6 = refl;
       refused-7 = refl;
       refused-8 = refl;

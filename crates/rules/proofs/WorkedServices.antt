@@ -2,10 +2,10 @@
 use mathlib.Core.Path.{refl}
 use Rattle.rules.specs.WorkedMonths.{supply, partyOf, readingOf}
 use Rattle.rules.specs.WorkedServices.{none, still, WorkedServices}
-use Rattle.rules.proofs.Computed.{words, hours, parts, records, services}
+use Rattle.rules.proofs.Computed.{words, hours, parts, records, plains, services}
 
 pub worked-services : WorkedServices
-unfolding words hours parts records services supply partyOf readingOf none still
+unfolding words hours parts records plains services supply partyOf readingOf none still
 worked-services =
     record {
       hours-745 = refl;
@@ -58,4 +58,14 @@ worked-services =
       write-short = refl;
       write-long = refl;
       write-nothing-further-on = refl;
+      plain-unknown = refl;
+      plain-too-many = refl;
+      plain-too-few = refl;
+      plain-span = refl;
+      plain-energy = refl;
+      plain-negative = refl;
+      plain-negative-hour = refl;
+      plain-negative-price = refl;
+      plain-count = refl;
+      plain-count-above = refl;
     }

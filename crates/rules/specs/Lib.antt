@@ -37,6 +37,7 @@ pub mod WellFormed
 pub mod MonthFile
 pub mod ReadingRefused
 pub mod Month
+pub mod PlainRecord
 pub mod Services
 pub mod Statement
 pub mod HoursReport

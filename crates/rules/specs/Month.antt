@@ -92,6 +92,13 @@ monthDistributed m i = sumℤ (H m) (λ t. distributed m t i)
 unfoldable pub monthPeriodised : MonthFile → ℕ → ℕ
 monthPeriodised m i = sum (H m) (λ t. periodised m t i)
 
+-- what a party's readings say that it has used: the E of each (law `periodised-of-readings`: this is what its periodised figures of the month add up to)
+unfoldable pub energyFor : MonthFile → ℕ → ℕ → ℕ
+energyFor m i j = cond (eqb (readingAt m j .party) i) (readingAt m j .e) 0
+
+unfoldable pub readEnergy : MonthFile → ℕ → ℕ
+readEnergy m i = sum (length (m .readings)) (energyFor m i)
+
 unfoldable pub monthLoss : MonthFile → ℕ → ℤ
 monthLoss m i = sumℤ (H m) (λ t. lossOf (m .heading .carrier) (loss m t) i)
 

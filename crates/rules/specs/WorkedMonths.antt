@@ -161,6 +161,10 @@ pub record WorkedMonths : Type 0 where
   pub refused-5-not-rising :
       statement (opening (headingOf 1 2020 1 2 2 0 ∷ partyOf "0000000000024" 1 ∷ partyOf "0000000000024" 1 ∷ []))
       ≡ ascii "refused 5 at 2\n"
+  -- three parties whose GLNs do not rise: the third is above the first, but not above the second
+  pub refused-5-third-below-second :
+      statement (opening (headingOf 1 2020 1 2 3 0 ∷ partyOf "0000000000017" 1 ∷ partyOf "0000000000031" 1 ∷ partyOf "0000000000024" 1 ∷ []))
+      ≡ ascii "refused 5 at 3\n"
   -- W is judged once the whole file is read, and before the missing hour
   pub refused-6 :
       statement (small (supply missing (pos 0)) (supply measured (pos 3)) (supply measured (pos 2)) (supply measured (pos 2)) 0 0 4)

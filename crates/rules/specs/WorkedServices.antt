@@ -5,7 +5,8 @@ use mathlib.Core.Path.{_≡_}
 use Prim.Native.Nat.{ℕ}
 use lib.IntN.{ℤ, pos, negsuc}
 use lib.ListN.{replicate}
-use Rattle.rules.specs.Record.{fixedHour, price, end, bodyLength, recordBytes, readAlone, writeVerdict, written}
+use Rattle.rules.specs.PlainRecord.{plainVerdict}
+use Rattle.rules.specs.Record.{readingKind, priceKind, endKind, fixedHour, price, end, bodyLength, recordBytes, readAlone, writeVerdict, written}
 use Rattle.rules.specs.Refusals.{fileFault, unknownKind, outOfRange, glnFault, wOutOfRange, missingHour, residualNegative, residualTooLarge}
 use Rattle.rules.specs.Refusals.{curveTooLarge, spanFault, energyTooLarge, periodisedTooLarge, wrongLength, accepted, refused, given}
 use Rattle.rules.specs.Refusals.{refusal, first}
@@ -92,3 +93,14 @@ pub record WorkedServices : Type 0 where
   pub write-short : writeVerdict (end 1) 4 ≡ refused wrongLength 0
   pub write-long : writeVerdict (end 1) 7 ≡ accepted
   pub write-nothing-further-on : written (end 1) (9 ∷ 9 ∷ 9 ∷ 9 ∷ 9 ∷ 8 ∷ 7 ∷ []) ≡ 7 ∷ 0 ∷ 0 ∷ 0 ∷ 1 ∷ 8 ∷ 7 ∷ []
+  -- the writer on plain numbers: 2 before all; another length; a or b beyond two bytes, and E beyond four, by their own rules; below 0 before any of them; a count beyond four bytes
+  pub plain-unknown : plainVerdict 8 [] [] 0 ≡ refused unknownKind 0
+  pub plain-too-many : plainVerdict endKind (pos 1 ∷ pos 1 ∷ []) [] 5 ≡ refused outOfRange 0
+  pub plain-too-few : plainVerdict readingKind (pos 0 ∷ pos 0 ∷ pos 1 ∷ []) [] 10 ≡ refused outOfRange 0
+  pub plain-span : plainVerdict readingKind (pos 0 ∷ pos 65536 ∷ pos 65537 ∷ pos 0 ∷ []) [] 10 ≡ refused spanFault 0
+  pub plain-energy : plainVerdict readingKind (pos 0 ∷ pos 0 ∷ pos 1 ∷ pos 4294967296 ∷ []) [] 10 ≡ refused energyTooLarge 0
+  pub plain-negative : plainVerdict readingKind (pos 0 ∷ pos 1 ∷ pos 1 ∷ negsuc 0 ∷ []) [] 10 ≡ refused outOfRange 0
+  pub plain-negative-hour : plainVerdict priceKind (negsuc 0 ∷ negsuc 0 ∷ []) [] 7 ≡ refused outOfRange 0
+  pub plain-negative-price : plainVerdict priceKind (pos 0 ∷ negsuc 0 ∷ []) [] 7 ≡ accepted
+  pub plain-count : plainVerdict endKind (pos 4294967295 ∷ []) [] 5 ≡ accepted
+  pub plain-count-above : plainVerdict endKind (pos 4294967296 ∷ []) [] 5 ≡ refused outOfRange 0

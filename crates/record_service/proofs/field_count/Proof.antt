@@ -1,6 +1,6 @@
 -- `record_service::field_count` meets its contract: each kind has its own number, and the last kind is the end. Assumes nothing.
 use Rattle.rules.proofs.EachKind.{body-lengths, last-kind}
-use Rattle.record_service.specs.Plain.{fieldCount}
+use Rattle.record_service.specs.Held.{fieldCount}
 use Rattle.record_service.proofs.field_count.Statement.{statement}
 use Rattle.record_service.proofs.field_count.Tie as tie
 

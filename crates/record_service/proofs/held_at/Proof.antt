@@ -1,5 +1,5 @@
 -- `record_service::held_at` meets its contract: below its field, within it, or beyond it. Assumes nothing.
-use Rattle.record_service.specs.Plain.{held}
+use Rattle.record_service.specs.Held.{held}
 use lib.IntN.{pos}
 use lib.ListN.{getD}
 use mir.Syntax.{w64}

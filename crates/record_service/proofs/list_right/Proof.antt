@@ -5,11 +5,10 @@ use lib.ListN.{getD}
 use mir.Facts.{toZ-ofZ}
 use mir.Syntax.{w64}
 use mir.Val.{SFits}
-use mathlib.Core.Path.{_≡_, _∙_, ap}
+use mathlib.Core.Path.{_∙_, ap}
 use native.Mathlib.Omega.{arith}
-use Rattle.rules.specs.Record.{endKind}
 use Rattle.rules.proofs.EachKind.{body-lengths}
-use Rattle.record_service.specs.Plain.{fieldCount}
+use Rattle.record_service.specs.Held.{fieldCount}
 use Rattle.record_service.proofs.PlainOne.{wrong-length, wrong-sign, no-end, end-count}
 use borrow.Author.Needs.{needs}
 use Rattle.record_service.proofs.list_right.Statement.{statement}

@@ -7,7 +7,7 @@ use mir.Syntax.{w64}
 use mir.Val.{SFits}
 use Rattle.record.specs.declared.Record.the-variants.{Heading, Party, FixedHour, Reading, RefixedHour, End}
 use Rattle.rules.proofs.EachKind.{body-lengths, last-kind}
-use Rattle.record_service.specs.Plain.{fieldCount, plainRecord}
+use Rattle.record_service.specs.Held.{fieldCount, heldRecord}
 use native.Mathlib.Omega.{arith}
 use mathlib.Core.Path.{_∙_, ap, ap₂}
 use Rattle.record_service.proofs.record_of.Statement.{statement}
@@ -54,31 +54,31 @@ unfolding fieldCount body-lengths
 u32-of-requires c κs = omega (arith, c .before .pre .1 ∙ ap fieldCount (last-kind _ (c .before .pre .0) (c .match .rest)))
 
 returns : tie.Need-returns
-unfolding plainRecord
+unfolding heldRecord
 returns c = rw (c .before .match .keys1) (ap Heading (c .heading-of .ensures))
 
 returns-2 : tie.Need-returns-2
-unfolding plainRecord
+unfolding heldRecord
 returns-2 c = rw (c .before .match .keys2) (ap Party (c .u64-of .ensures))
 
 returns-3 : tie.Need-returns-3
-unfolding plainRecord
+unfolding heldRecord
 returns-3 c = rw (c .before .before .match .keys3) (ap₂ FixedHour (c .before .u16-of .ensures) (c .flows-of .ensures))
 
 returns-4 : tie.Need-returns-4
-unfolding plainRecord
+unfolding heldRecord
 returns-4 c = rw (c .before .match .keys4) (ap Reading (c .reading-of .ensures))
 
 returns-5 : tie.Need-returns-5
-unfolding plainRecord
+unfolding heldRecord
 returns-5 c = let f : SFits w64 (getD (c .before .before .before .args .numbers .now) 1 (pos 0)) = search needs in rw (c .before .before .match .keys5, toZ-ofZ f, c .before .u16-of2 .ensures)
 
 returns-6 : tie.Need-returns-6
-unfolding plainRecord
+unfolding heldRecord
 returns-6 c = rw (c .before .before .match .keys6) (ap₂ RefixedHour (c .before .u16-of3 .ensures) (c .flows-of2 .ensures))
 
 returns-7 : tie.Need-returns-7
-unfolding plainRecord
+unfolding heldRecord
 returns-7 c = rw (last-kind _ (c .before .before .pre .0) (c .before .match .rest)) (ap End (c .u32-of .ensures))
 
 pub record-of-spec : {M : Type 1} → statement M

@@ -1,6 +1,6 @@
 -- `record_service::signed_place` meets its contract: three kinds have such a number. Assumes nothing.
 use borrow.Author.Tests.{ne-eqb}
-use Rattle.record_service.specs.Plain.{signedPlace}
+use Rattle.record_service.specs.Held.{signedPlace}
 use Rattle.record_service.proofs.signed_place.Statement.{statement}
 use Rattle.record_service.proofs.signed_place.Tie as tie
 

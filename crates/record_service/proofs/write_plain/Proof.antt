@@ -1,6 +1,6 @@
 -- `record_service::write_plain` meets its contract: the kind, the list, and then the writer. Assumes nothing.
 use borrow.Author.Tests.{not-false}
-use mathlib.Core.Path.{sym, _∙_}
+use mathlib.Core.Path.{refl, sym, _∙_}
 use native.Mathlib.Omega.{arith}
 use Rattle.record_service.proofs.PlainOne.{no-kind-above, no-body, has-body, unknown, wrong-list, written-plain, right-length}
 use borrow.Author.Needs.{needs}
@@ -10,7 +10,7 @@ use Rattle.record_service.proofs.write_plain.Tie as tie
 returns : tie.Need-returns
 returns c =
     let start = c .before .before .before in
-    unknown (start .args .kind) (start .args .numbers .now) (start .args .gln .now) (start .args .out .now) (no-kind-above _ (c .if1 .taken))
+    unknown (start .args .kind) (start .args .numbers .now) (start .args .gln .now) (start .args .out .now) (no-kind-above _ (c .if1 .taken)) refl
 
 cast-sort : tie.Need-cast-sort
 cast-sort c = search needs
@@ -22,7 +22,7 @@ returns-2 : tie.Need-returns-2
 returns-2 c =
     let start = c .before .before .before .before .before in
     unknown (start .args .kind) (start .args .numbers .now) (start .args .gln .now) (start .args .out .now)
-    (no-body _ (omega (arith, c .before .body-length .ensures)))
+    (no-body _ (omega (arith, c .before .body-length .ensures))) refl
 
 list-right-requires : tie.Need-list-right-requires
 list-right-requires c κs = has-body _ (omega (arith, c .before .body-length .ensures))
@@ -31,7 +31,7 @@ returns-3 : tie.Need-returns-3
 returns-3 c =
     let start = c .before .before .before .before .before .before .before in
     wrong-list (start .args .kind) (start .args .numbers .now) (start .args .gln .now) (start .args .out .now)
-    (has-body _ (omega (arith, c .before .before .before .body-length .ensures))) (c .before .list-right .ensures) (c .if3 .taken)
+    (has-body _ (omega (arith, c .before .before .before .body-length .ensures))) (c .before .list-right .ensures) (c .if3 .taken) refl
 
 record-of-requires : tie.Need-record-of-requires
 record-of-requires c κs = (has-body _ (omega (arith, c .before .before .before .body-length .ensures)), right-length _ _ (sym (c .before .list-right .ensures) ∙ not-false _ (c .if3 .left)))

@@ -1,0 +1,94 @@
+-- A party's month of periodised figures is the sum of the E of its readings: a reading lies within the month, so none of its figures is left out, and they
+-- add up to its E.
+use mathlib.Core.Bool.{Bool, true, false, cond, _&&_}
+use mathlib.Core.Logic.{_⊎_, inl, inr, ⊎-elim}
+use mathlib.Core.Path.{_≡_, refl, sym, _∙_, ap}
+use Prim.Native.Nat.{ℕ, _+_, _-_, _≤_, _<_}
+use native.Mathlib.Omega.{arith}
+use borrow.Author.Tests.{le-leb, lt-leb, lt-ltb, le-ltb, leb-true, eqb-true}
+use lib.Dec.{eqb, leb, ltb}
+use lib.ListN.{length}
+use Rattle.rules.specs.Month.{readingAt, weightOf, S, readingFigure, figureFor, periodised, monthPeriodised, energyFor, readEnergy, readingVerdict, monthChecks, monthVerdict}
+use Rattle.rules.specs.MonthFile.{MonthFile, H, P}
+use Rattle.rules.specs.Periodised.{periodisedFigure}
+use Rattle.rules.specs.Record.{Reading}
+use Rattle.rules.specs.Refusals.{accepted}
+use Rattle.rules.specs.Words.{sum}
+use Rattle.rules.proofs.Periodised.{figures-add-up-to-E, nothing-over-nothing}
+use Rattle.rules.proofs.Refusals.{accepted-exactly, in-turn-exactly, unless-exactly}
+use Rattle.rules.proofs.Sums.{sum-cong, sum-split, sum-swap, sum-zero}
+use Rattle.rules.proofs.Whole.{Whole, ReadingRight, every-at, one-passes}
+
+-- figures that stand in the hours from a to before b, and nowhere else: over h hours they add up to what they add up to over their own
+module _ (a b h : ℕ) (f : ℕ → ℕ) (rises : a ≤ b) (within : b ≤ h) where
+  abbrev placed : ℕ → ℕ
+  placed t = cond (leb a t && ltb t b) (f (t - a)) 0
+
+  before : (t : ℕ) → t < a → placed t ≡ 0
+  before t l = rw (lt-leb a t l)
+
+  among : (k : ℕ) → k < b - a → placed (a + k) ≡ f k
+  among k l =
+      let back : a + k - a ≡ k = omega arith in
+      rw (le-leb a (a + k) (omega arith), lt-ltb (a + k) b (omega arith), back)
+
+  behind : (k : ℕ) → placed (a + (b - a + k)) ≡ 0
+  behind k = rw (le-leb a (a + (b - a + k)) (omega arith), le-ltb (a + (b - a + k)) b (omega arith))
+
+  pub sum-placed : sum h placed ≡ sum (b - a) f
+  sum-placed =
+      let whole : a + (b - a + (h - b)) ≡ h = omega arith in
+      let first = sum-split a (b - a + (h - b)) placed in
+      let second = sum-split (b - a) (h - b) (λ k. placed (a + k)) in
+      let none = sum-zero a {f = placed} before in
+      let own = sum-cong (b - a) {f = λ k. placed (a + k)} {g = f} among in
+      let after = sum-zero (h - b) {f = λ k. placed (a + (b - a + k))} (λ k l. behind k) in
+      omega (arith, ap (λ (n : ℕ). sum n placed) whole, first, second, none, own, after)
+
+-- A READING WITHIN THE MONTH ADDS UP TO ITS E, if it has E = 0 or S > 0 (13)
+module _ (m : MonthFile) (r : Reading) where
+  abbrev own-figures : ℕ → ℕ
+  own-figures = periodisedFigure (r .e) (r .b - r .a) (weightOf m r)
+
+  nothing : r .e ≡ 0 → sum (r .b - r .a) own-figures ≡ r .e
+  nothing z = sum-zero (r .b - r .a) (λ k l. nothing-over-nothing (r .e) (r .b - r .a) (weightOf m r) k (inl z)) ∙ sym z
+
+  something : 0 < S m r → sum (r .b - r .a) own-figures ≡ r .e
+  unfolding S
+  something p = figures-add-up-to-E (r .e) (r .b - r .a) (weightOf m r) p
+
+  pub reading-adds-up : r .a < r .b → r .b ≤ H m → (r .e ≡ 0) ⊎ (0 < S m r) → sum (H m) (readingFigure m r) ≡ r .e
+  unfolding readingFigure
+  reading-adds-up rises within c = sum-placed (r .a) (r .b) (H m) own-figures (omega arith) within ∙ ⊎-elim nothing something c
+
+module _ (m : MonthFile) (whole : Whole m) (followed : (j : ℕ) → j < length (m .readings) → readingVerdict m j ≡ accepted) where
+  its-span : (j : ℕ) → j < length (m .readings) → ReadingRight (H m) (P m) (readingAt m j)
+  unfolding readingAt
+  its-span j b = every-at (ReadingRight (H m) (P m)) (m .readings) (whole .readings) j _ b
+
+  no-13 : (j : ℕ) → j < length (m .readings) → (readingAt m j .e ≡ 0) ⊎ (0 < S m (readingAt m j))
+  unfolding readingVerdict
+  no-13 j b =
+      ⊎-elim (λ (z : eqb (readingAt m j .e) 0 ≡ true). inl (eqb-true _ _ z)) (λ (p : leb 1 (S m (readingAt m j)) ≡ true). inr (leb-true _ _ p))
+      (one-passes _ _ (unless-exactly _ _ _ .0 (followed j b)))
+
+  of-one : (i j : ℕ) → j < length (m .readings) → sum (H m) (λ t. figureFor m t i j) ≡ energyFor m i j
+  unfolding figureFor energyFor
+  of-one i j b = go (eqb (readingAt m j .party) i)
+    where
+      go : (t : Bool) → sum (H m) (λ k. cond t (readingFigure m (readingAt m j) k) 0) ≡ cond t (readingAt m j .e) 0
+      go true = reading-adds-up m (readingAt m j) (its-span j b .1) (its-span j b .2) (no-13 j b)
+      go false = sum-zero (H m) (λ k l. refl)
+
+  -- A PARTY'S MONTH OF PERIODISED FIGURES IS THE SUM OF THE E OF ITS READINGS
+  pub periodised-of-readings : (i : ℕ) → monthPeriodised m i ≡ readEnergy m i
+  unfolding monthPeriodised periodised readEnergy
+  periodised-of-readings i =
+      sym (sum-swap (length (m .readings)) (H m) (λ t j. figureFor m t i j)) ∙ sum-cong (length (m .readings)) (of-one i)
+
+-- and so it is of every accepted month
+pub accepted-month-of-readings : (m : MonthFile) → Whole m → monthVerdict m ≡ accepted → (i : ℕ) → monthPeriodised m i ≡ readEnergy m i
+unfolding monthVerdict monthChecks
+accepted-month-of-readings m whole ok =
+    periodised-of-readings m whole
+    (in-turn-exactly (length (m .readings)) (readingVerdict m) .0 (accepted-exactly (monthChecks m) .0 ok .1 .1 .1 .1 .0))
