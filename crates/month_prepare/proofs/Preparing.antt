@@ -6,7 +6,7 @@ use Prim.Native.Nat.{ℕ, suc, _+_, _-_, _≤_}
 use native.Mathlib.Nat.{sub-zero}
 use borrow.Rule.Slice.PartMut.{midOf, postOf, putMid, mid-len, same-len-mid}
 use native.Mathlib.Omega.{arith}
-use lib.ListN.{length, take}
+use lib.ListN.{length, replicate, take, length-replicate}
 use lib.Seq.{take-at}
 use Rattle.file_sections.specs.Walk.{Accepted}
 use Rattle.file_sections.specs.declared.Sections.{Sections}
@@ -18,6 +18,10 @@ use Rattle.rules.specs.Limits.{mostHours, mostParties}
 use Rattle.rules.specs.Month.{monthOf}
 use Rattle.rules.specs.MonthFile.{H, P}
 use Rattle.rules.proofs.Whole.{heading-facts}
+
+-- so many places with 0 in them are so many
+pub so-many : (n : ℕ) {l : List ℕ} → l ≡ replicate n 0 → length l ≡ n
+so-many n e = ap length e ∙ length-replicate n 0
 
 -- a part that was lent from the first place on is back: it stands first
 pub record Stands (n places : ℕ) (part whole : List ℕ) : Type 0 where
