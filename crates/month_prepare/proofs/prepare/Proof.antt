@@ -90,10 +90,10 @@ returns c =
     let lent = places (after-make .before) in
     let start = begins lent in
     prepared _ _ (start .pre) (after-make .make .ensures)
-    (stands _ _ _ (so-many mostHours (lent .before .before .before .hour-places .ensures)) (few-hours _ _ (start .pre)) (after-fixed-wh2 .fixed-wh2 .given))
-    (stands _ _ _ (so-many mostHours (lent .before .before .hour-places2 .ensures)) (few-refixed _ _ (start .pre)) (after-refixed-wh2 .refixed-wh2 .given))
-    (stands _ _ _ (so-many mostHours (lent .before .hour-places3 .ensures)) (few-hours _ _ (start .pre)) (c .before .curve2 .given))
-    (stands _ _ _ (so-many (suc mostHours) (lent .beginning-places .ensures)) (omega (arith, few-hours _ _ (start .pre))) (c .beginnings2 .given))
+    (stands _ _ _ (lent .before .before .before .hour-places .ensures) (few-hours _ _ (start .pre)) (after-fixed-wh2 .fixed-wh2 .given))
+    (stands _ _ _ (lent .before .before .hour-places2 .ensures) (few-refixed _ _ (start .pre)) (after-refixed-wh2 .refixed-wh2 .given))
+    (stands _ _ _ (lent .before .hour-places3 .ensures) (few-hours _ _ (start .pre)) (c .before .curve2 .given))
+    (stands _ _ _ (lent .beginning-places .ensures) (omega (arith, few-hours _ _ (start .pre))) (c .beginnings2 .given))
 
 pub prepare-spec : {M : Type 1} → statement M
 prepare-spec =
