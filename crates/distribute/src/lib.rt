@@ -180,7 +180,8 @@ pub fn put_figures(from: &[i64; 64], n: usize, out: &mut [i64], place: usize)
 {
     let mut i = 0;
     while i < n {
-        out[place + i] = from[i];
+        let here = place + i;
+        out[here] = from[i];
         i += 1;
     }
 }

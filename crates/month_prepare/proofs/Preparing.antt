@@ -1,12 +1,12 @@
 -- The places for what is made: enough for every month, and each part that was lent stands first when it is back.
 use mathlib.Core.List.{List}
 use mathlib.Core.Logic.{⊎-elim}
-use mathlib.Core.Path.{_≡_, _∙_, ap}
-use Prim.Native.Nat.{ℕ, suc, _+_, _-_, _≤_}
-use native.Mathlib.Nat.{sub-zero}
-use borrow.Rule.Slice.PartMut.{midOf, postOf, putMid, mid-len, same-len-mid}
+use mathlib.Core.Path.{_≡_, sym, _∙_, ap}
+use Prim.Native.Nat.{ℕ, zero, suc, _+_, _-_, _≤_, zero-le}
+use native.Mathlib.Nat.{sub-zero, zero-sub, suc-sub-suc}
+use borrow.Rule.Slice.PartMut.{midOf, postOf, putMid, mid-len, same-len-mid, drop-put}
 use native.Mathlib.Omega.{arith}
-use lib.ListN.{length, take}
+use lib.ListN.{length, replicate, take, drop, length-replicate}
 use lib.Seq.{take-at}
 use Rattle.file_sections.specs.Walk.{Accepted}
 use Rattle.file_sections.specs.declared.Sections.{Sections}
@@ -19,30 +19,45 @@ use Rattle.rules.specs.Month.{monthOf}
 use Rattle.rules.specs.MonthFile.{H, P}
 use Rattle.rules.proofs.Whole.{heading-facts}
 
--- a part that was lent from the first place on is back: it stands first
+-- so many places with 0 in them are so many
+pub so-many : (n : ℕ) {l : List ℕ} → l ≡ replicate n 0 → length l ≡ n
+so-many n e = ap length e ∙ length-replicate n 0
+
+-- and those behind the first n of them are so many fewer
+behind : (n places : ℕ) → drop {A = ℕ} n (replicate places 0) ≡ replicate (places - n) 0
+behind zero places = ap (λ (k : ℕ). replicate k 0) (sym (sub-zero places))
+behind (suc n) zero = ap (λ (k : ℕ). replicate k 0) (sym (zero-sub (suc n)))
+behind (suc n) (suc places) = behind n places ∙ ap (λ (k : ℕ). replicate k 0) (sym (suc-sub-suc places n))
+
+-- a part that was lent from the first place on is back: it stands first, and behind it what stood there
 pub record Stands (n places : ℕ) (part whole : List ℕ) : Type 0 where
   pub first : take n whole ≡ part
   pub size : length whole ≡ places
+  pub past : drop n whole ≡ replicate (places - n) 0
 
-pub stands :
-    (n : ℕ) (lent part : List ℕ) {places : ℕ}
-    → length lent ≡ places
-    → n ≤ places
-    → length part ≡ length (midOf 0 (n - 0) lent)
-    → Stands n places part (putMid 0 (n - 0) lent part)
-stands n lent part {places} size enough same =
-    let many : length part ≡ n = same ∙ mid-len 0 n lent (omega (arith, size)) ∙ sub-zero n in
-    record { first = take-at part (postOf 0 (n - 0) lent) n many; size = same-len-mid 0 (n - 0) lent part same ∙ size }
+module _ (n : ℕ) (lent part : List ℕ) {places : ℕ} where
+  module _ (size : length lent ≡ places) (enough : n ≤ places) (same : length part ≡ length (midOf 0 (n - 0) lent)) where
+    as-many : length part ≡ n
+    as-many = same ∙ mid-len 0 n lent (omega (arith, size)) ∙ sub-zero n
 
--- and is lent again
-pub lent-again :
-    (n : ℕ) (lent part : List ℕ) {places : ℕ}
-    → length lent ≡ places
-    → n ≤ places
-    → length part ≡ length (midOf 0 (n - 0) lent)
-    → take (n - 0) (putMid 0 (n - 0) lent part) ≡ part
-lent-again n lent part size enough same =
-    ap (λ (k : ℕ). take k (putMid 0 (n - 0) lent part)) (sub-zero n) ∙ stands n lent part size enough same .first
+    pub still-as-many : length (putMid 0 (n - 0) lent part) ≡ places
+    still-as-many = same-len-mid 0 (n - 0) lent part same ∙ size
+
+    stands-first : take n (putMid 0 (n - 0) lent part) ≡ part
+    stands-first = take-at part (postOf 0 (n - 0) lent) n as-many
+
+    -- and is lent again
+    pub lent-again : take (n - 0) (putMid 0 (n - 0) lent part) ≡ part
+    lent-again = ap (λ (k : ℕ). take k (putMid 0 (n - 0) lent part)) (sub-zero n) ∙ stands-first
+
+  pub stands : lent ≡ replicate places 0 → n ≤ places → length part ≡ length (midOf 0 (n - 0) lent) → Stands n places part (putMid 0 (n - 0) lent part)
+  stands none enough same =
+      let size : length lent ≡ places = so-many places none in
+      record {
+        first = stands-first size enough same;
+        size = still-as-many size enough same;
+        past = drop-put 0 n lent part zero-le (omega (arith, size)) (as-many size enough same ∙ sym (sub-zero n)) ∙ ap (λ (l : List ℕ). drop n l) none ∙ behind n places;
+      }
 
 module _ (file : List ℕ) (s : Sections) (ok : Accepted file s) where
   pub few-parties : s .heading .parties ≤ mostParties
@@ -74,6 +89,10 @@ module _ (file : List ℕ) (s : Sections) (ok : Accepted file s) where
         refixed-places = r .size;
         curve-places = c .size;
         beginnings-places = b .size;
+        fixed-past = f .past;
+        refixed-past = r .past;
+        curve-past = c .past;
+        beginnings-past = b .past;
         is = rw (f .first, r .first, c .first, b .first) is;
       }
 

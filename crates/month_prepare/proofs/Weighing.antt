@@ -16,7 +16,7 @@ use Rattle.file_sections.specs.Walk.{Accepted}
 use Rattle.file_sections.specs.declared.Sections.{Sections}
 use Rattle.file_sections.proofs.AcceptedFile.{month-whole, parties-are}
 use Rattle.month_prepare.specs.Checks.{WeighedIs}
-use Rattle.month_prepare.proofs.Preparing.{stands, lent-again, few-parties}
+use Rattle.month_prepare.proofs.Preparing.{still-as-many, lent-again, few-parties}
 use Rattle.rules.specs.Flows.{W}
 use Rattle.rules.specs.Limits.{greatestW, greatestShare, mostParties}
 use Rattle.rules.specs.Month.{monthOf, partyAt, shareOf, monthW}
@@ -37,7 +37,7 @@ module _
   places = putMid 0 (s .heading .parties - 0) lent part
 
   pub places-enough : s .heading .parties ≤ length places
-  places-enough = omega (arith, stands (s .heading .parties) lent part size (few-parties file s ok) same .size, few-parties file s ok)
+  places-enough = omega (arith, still-as-many (s .heading .parties) lent part size (few-parties file s ok) same, few-parties file s ok)
 
   pub read-again : take (s .heading .parties - 0) places ≡ figures (P (monthOf file)) (shareOf (monthOf file))
   read-again =

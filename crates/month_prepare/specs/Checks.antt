@@ -2,9 +2,9 @@
 -- likewise; 10 by hour; 13 by reading"; and what is made on the way.
 use mathlib.Core.List.{List}
 use mathlib.Core.Path.{_≡_}
-use Prim.Native.Nat.{ℕ, suc, _+_, _≤_, _<_}
+use Prim.Native.Nat.{ℕ, suc, _+_, _-_, _≤_, _<_}
 use lib.IntN.{pos}
-use lib.ListN.{length, replicate, take}
+use lib.ListN.{length, replicate, take, drop}
 use Rattle.answer.specs.Said.{said}
 use Rattle.distribute.specs.Good.{Started}
 use Rattle.distribute.specs.declared.Carries.{Carries}
@@ -108,12 +108,16 @@ pub record MadeIs (m : MonthFile) (r : Made) (fixed refixed curveNumbers beginni
   pub verdict : said (r .answer) ≡ makingVerdict m
   pub made : said (r .answer) ≡ accepted → Making m r fixed refixed curveNumbers beginnings
 
--- the same, of arrays with a place for each hour that a month can have
+-- the same, of arrays with a place for each hour that a month can have; behind those of the month each place has 0
 pub record PreparedIs (file : List ℕ) (s : Sections) (r : Prepared) : Type 0 where
   pub fixed-places : length (r .«fixed_wh») ≡ mostHours
   pub refixed-places : length (r .«refixed_wh») ≡ mostHours
   pub curve-places : length (r .curve) ≡ mostHours
   pub beginnings-places : length (r .beginnings) ≡ suc mostHours
+  pub fixed-past : drop (s .heading .hours) (r .«fixed_wh») ≡ replicate (mostHours - s .heading .hours) 0
+  pub refixed-past : drop (s .refixed) (r .«refixed_wh») ≡ replicate (mostHours - s .refixed) 0
+  pub curve-past : drop (s .heading .hours) (r .curve) ≡ replicate (mostHours - s .heading .hours) 0
+  pub beginnings-past : drop (s .heading .hours + 1) (r .beginnings) ≡ replicate (suc mostHours - (s .heading .hours + 1)) 0
   pub is :
       MadeIs (monthOf file) (r .made)
       (take (s .heading .hours) (r .«fixed_wh»)) (take (s .refixed) (r .«refixed_wh»))

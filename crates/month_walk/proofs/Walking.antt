@@ -39,7 +39,7 @@ walk-begins {file} {c} begin {window} size =
   where
     holds : Holds (monthOf file) (begun c .held) window
     holds =
-        record { size = size; inside = zero-le; fits = omega arith; each = λ i k b l. absurd (not-suc-le-zero l); passed = refl }
+        record { is = record { size = size; inside = zero-le; fits = omega arith; each = λ i k b l. absurd (not-suc-le-zero l) }; passed = refl }
 
 -- up to the last hour of a window none is refused with 14
 pub in-limit : {m : MonthFile} {w : Walk} {window : List ℕ} → Walked m w window → (u : ℕ) → u < w .t → allPeriodised m u ≤ greatestPeriodised
@@ -49,7 +49,7 @@ in-limit {m} {w} a u b =
 
 -- a walk stays in the month, and past its last hour none of them is refused
 pub walk-inside : {m : MonthFile} {w : Walk} {window : List ℕ} → Walked m w window → w .t ≤ H m
-walk-inside {m} {w} a = omega (arith, a .come, a .holds .inside)
+walk-inside {m} {w} a = omega (arith, a .come, a .holds .is .inside)
 
 pub walk-passed : {m : MonthFile} {w : Walk} {window : List ℕ} → Walked m w window → R.inTurn (w .t) (periodisedVerdict m) ≡ R.accepted
 walk-passed {m} {w} a =
@@ -82,7 +82,7 @@ module _ {file : List ℕ} {s : Sections} {applied curveNumbers beginnings : Lis
     module _ {opened : Opened} {window′ : List ℕ} (is : OpenedIs m (w .t) opened window′) where
       pub step-stops : (x : Refusal) (place : ℕ) → opened .answer ≡ Refused x place → (w′ : Walk) → w′ .answer ≡ opened .answer → SteppedIs m (w .t) w′ window′
       step-stops x place e w′ same =
-          record { on = λ done. absurd (never (sym e ∙ sym same ∙ done)); stopped = λ y q f. ap said same ∙ is .stopped y q (sym same ∙ f) }
+          record { window-is = record { held = opened .held; is = is .is }; on = λ done. absurd (never (sym e ∙ sym same ∙ done)); stopped = λ y q f. ap said same ∙ is .stopped y q (sym same ∙ f) }
         where
           never : _≡_ {A = Answer} (Refused x place) Done → ⊥
           never e = let z : _≡_ {A = ℕ} 0 1 = cc in omega arith
@@ -103,7 +103,7 @@ module _ {file : List ℕ} {s : Sections} {applied curveNumbers beginnings : Lis
           let walked : Walked m (record { answer = opened .answer; carries = c; t = w .t + 1; held = opened .held }) window′ =
           record { carried = carried; holds = hour .holds; begun = begun; come = come } in
           let given = C.figures-are m judged b (at .carried) (residual-is b) next in
-          record { on = λ e. record { walked = walked; one-on = refl; hour = hour; distributed = given }; stopped = is .stopped }
+          record { window-is = record { held = opened .held; is = is .is }; on = λ e. record { walked = walked; one-on = refl; hour = hour; distributed = given }; stopped = is .stopped }
 
 -- an hour of a window
 module _ {file : List ℕ} {s : Sections} {t residual : ℕ} {x : Held} {distributed : List ℤ} {window : List ℕ} (a : HourAsked file s t residual x distributed window) where
@@ -111,7 +111,7 @@ module _ {file : List ℕ} {s : Sections} {t residual : ℕ} {x : Held} {distrib
   h = a .hour
 
   in-month : t < H (monthOf file)
-  in-month = omega (arith, h .left, h .holds .inside)
+  in-month = omega (arith, h .left, h .holds .is .inside)
 
   limit-here : allPeriodised (monthOf file) t ≤ greatestPeriodised
   limit-here =
@@ -121,14 +121,14 @@ module _ {file : List ℕ} {s : Sections} {t residual : ℕ} {x : Held} {distrib
   column-there : Column window (x .hours) (t - x .start) (P (monthOf file))
   column-there =
       let hour : t - x .start < x .hours = omega (arith, h .left, h .begun) in
-      let size : P (monthOf file) * x .hours ≤ length window = omega (arith, h .holds .fits, h .holds .size) in
-      record { few = few-parties (monthOf file) (a .judged); hour = hour; size = size; short = omega (arith, h .holds .size) }
+      let size : P (monthOf file) * x .hours ≤ length window = omega (arith, h .holds .is .fits, h .holds .is .size) in
+      record { few = few-parties (monthOf file) (a .judged); hour = hour; size = size; short = omega (arith, h .holds .is .size) }
 
   periodised-is : (i : ℕ) → i < P (monthOf file) → column window (x .hours) (t - x .start) i ≡ periodised (monthOf file) t i
   periodised-is i b =
       let e : x .start + (t - x .start) ≡ t = omega (arith, h .begun) in
       subst (λ (u : ℕ). column window (x .hours) (t - x .start) i ≡ periodised (monthOf file) u i) e
-      (h .holds .each i (t - x .start) b (column-there .hour))
+      (h .holds .is .each i (t - x .start) b (column-there .hour))
 
   pub hour-known : HourKnown file s residual window (x .hours) (t - x .start) t
   hour-known =

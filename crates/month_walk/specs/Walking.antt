@@ -51,12 +51,21 @@ pub record NextAsked (m : MonthFile) (start lent : ℕ) : Type 0 where
   pub passed : inTurn start (periodisedVerdict m) ≡ accepted
   pub size : lent ≡ windowPlaces
 
--- WHAT A WINDOW'S PLACES HOLD: party after party, in so many places each, what is periodised in these hours; up to the last of them none is refused with 14
-pub record Holds (m : MonthFile) (x : Held) (window : List ℕ) : Type 0 where
+-- WHAT A WINDOW'S PLACES HOLD: party after party, in so many places each, what is periodised in these hours
+pub record WindowIs (m : MonthFile) (x : Held) (window : List ℕ) : Type 0 where
   pub size : length window ≡ windowPlaces
   pub inside : x .start + x .hours ≤ H m
   pub fits : P m * x .hours ≤ windowPlaces
   pub each : (i k : ℕ) → i < P m → k < x .hours → column window (x .hours) k i ≡ periodised m (x .start + k) i
+
+-- whichever hours these are: the window is lent for the walk alone, and what it holds afterwards is that of the hours walked last
+pub record SomeWindow (m : MonthFile) (window : List ℕ) : Type 0 where
+  pub held : Held
+  pub is : WindowIs m held window
+
+-- a window up to whose last hour none is refused with 14
+pub record Holds (m : MonthFile) (x : Held) (window : List ℕ) : Type 0 where
+  pub is : WindowIs m x window
   pub passed : inTurn (x .start + x .hours) (periodisedVerdict m) ≡ accepted
 
 -- an hour of the month that is in the window, or next after it
@@ -72,8 +81,9 @@ pub record HoldsHour (m : MonthFile) (x : Held) (t : ℕ) (window : List ℕ) : 
   pub begun : x .start ≤ t
   pub left : t < x .start + x .hours
 
--- the window of hour t, or the verdict of 14 over the whole month where one of its hours is refused
+-- the window of hour t; and the verdict of 14 over the whole month where one of its hours is refused
 pub record OpenedIs (m : MonthFile) (t : ℕ) (r : Opened) (window : List ℕ) : Type 0 where
+  pub is : WindowIs m (r .held) window
   pub opened : r .answer ≡ Done → HoldsHour m (r .held) t window
   pub stopped : (x : Refusal) (place : ℕ) → r .answer ≡ Refused x place → said (r .answer) ≡ inTurn (H m) (periodisedVerdict m)
 
@@ -102,6 +112,7 @@ pub record HourOn (m : MonthFile) (t : ℕ) (w : Walk) (window : List ℕ) : Typ
 
 -- WHAT A STEP COMES TO
 pub record SteppedIs (m : MonthFile) (t : ℕ) (r : Walk) (window : List ℕ) : Type 0 where
+  pub window-is : SomeWindow m window
   pub on : r .answer ≡ Done → HourOn m t r window
   pub stopped : (x : Refusal) (place : ℕ) → r .answer ≡ Refused x place → said (r .answer) ≡ inTurn (H m) (periodisedVerdict m)
 

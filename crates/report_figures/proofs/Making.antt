@@ -14,7 +14,7 @@ use Rattle.report_distances.specs.declared.Distances.{Distances}
 use Rattle.month_sums.proofs.Chain.{refused-before, hours-decide}
 use Rattle.month_prepare.specs.Checks.{MadeIs}
 use Rattle.month_prepare.specs.declared.Made.{Made}
-use Rattle.month_prepare.proofs.Preparing.{stands, lent-again}
+use Rattle.month_prepare.proofs.Preparing.{still-as-many, lent-again}
 use Rattle.file_sections.specs.declared.Sections.{Sections}
 use Rattle.file_sections.proofs.AcceptedFile.{hours-are}
 use Rattle.report_figures.specs.Hourly.{HourlyAsked, HourlyIs}
@@ -79,7 +79,7 @@ sums-lent {file} {s} asked =
 module _ {m : MonthFile} {made : Made} {f r c part : List ℕ} (is : MadeIs m made f r c part)
     (n : ℕ) (lent : List ℕ) {places : ℕ} (size : length lent ≡ places) (enough : n ≤ places) (same : length part ≡ length (midOf 0 (n - 0) lent)) where
   pub part-enough : n ≤ length (putMid 0 (n - 0) lent part)
-  part-enough = omega (arith, stands n lent part size enough same .size)
+  part-enough = omega (arith, still-as-many n lent part size enough same)
 
   pub as-lent-again : MadeIs m made f r c (take (n - 0) (putMid 0 (n - 0) lent part))
   as-lent-again = subst (λ (l : List ℕ). MadeIs m made f r c l) (sym (lent-again n lent part size enough same)) is

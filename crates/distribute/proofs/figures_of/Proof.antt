@@ -43,7 +43,7 @@ figure-of-requires : tie.Need-figure-of-requires Inv-loop μ-loop
 unfolding at
 figure-of-requires c κs =
     let small = c .before .before .before .before .before .pre .1 (c .before .before .before .before .loop .i) (omega arith) in
-    (small .grown, small .had)
+    (small .grown, omega (arith, small .grown, small .had))
 
 mul-figures : tie.Need-mul-figures Inv-loop μ-loop
 mul-figures c = search needs

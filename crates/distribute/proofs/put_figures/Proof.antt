@@ -20,14 +20,14 @@ abbrev μ-loop : tie.MeasureT-loop
 loop-holds : tie.Need-loop-holds Inv-loop μ-loop
 loop-holds c = put-start
 
+add-here : tie.Need-add-here Inv-loop μ-loop
+add-here c = search needs
+
 mul-out : tie.Need-mul-out Inv-loop μ-loop
 mul-out c = search needs
 
 element-copy-out-out : tie.Need-element-copy-out-out Inv-loop μ-loop
 element-copy-out-out c = search needs
-
-add-t11 : tie.Need-add-t11 Inv-loop μ-loop
-add-t11 c = search needs
 
 mul-t12 : tie.Need-mul-t12 Inv-loop μ-loop
 mul-t12 c = search needs
@@ -59,9 +59,9 @@ put-figures-spec =
     Inv-loop
     μ-loop
     loop-holds
+    add-here
     mul-out
     element-copy-out-out
-    add-t11
     mul-t12
     slice-set-from-out
     add-i

@@ -1,6 +1,8 @@
 -- `month_prepare::prepare` meets its contract: the places are enough for every month, and what was lent stands first in them. Assumes nothing.
+use Prim.Native.Nat.{suc}
 use native.Mathlib.Omega.{arith}
-use Rattle.month_prepare.proofs.Preparing.{few-hours, few-refixed, stands, prepared}
+use Rattle.rules.specs.Limits.{mostHours}
+use Rattle.month_prepare.proofs.Preparing.{so-many, few-hours, few-refixed, stands, prepared}
 use borrow.Author.Needs.{needs}
 use Rattle.month_prepare.proofs.prepare.Statement.{statement}
 use Rattle.month_prepare.proofs.prepare.Tie as tie
@@ -38,7 +40,7 @@ part-fixed-wh-start : tie.Need-part-fixed-wh-start
 part-fixed-wh-start c = search needs
 
 part-fixed-wh-end : tie.Need-part-fixed-wh-end
-part-fixed-wh-end c = omega (arith, c .before .before .before .hour-places .ensures, few-hours _ _ (begins c .pre))
+part-fixed-wh-end c = omega (arith, so-many mostHours (c .before .before .before .hour-places .ensures), few-hours _ _ (begins c .pre))
 
 sub-make-2 : tie.Need-sub-make-2
 sub-make-2 c = search needs
@@ -47,7 +49,7 @@ part-refixed-wh-start : tie.Need-part-refixed-wh-start
 part-refixed-wh-start c = search needs
 
 part-refixed-wh-end : tie.Need-part-refixed-wh-end
-part-refixed-wh-end c = omega (arith, c .before .before .before .hour-places2 .ensures, few-refixed _ _ (begins (c .before) .pre))
+part-refixed-wh-end c = omega (arith, so-many mostHours (c .before .before .before .hour-places2 .ensures), few-refixed _ _ (begins (c .before) .pre))
 
 sub-make-3 : tie.Need-sub-make-3
 sub-make-3 c = search needs
@@ -56,7 +58,7 @@ part-curve-start : tie.Need-part-curve-start
 part-curve-start c = search needs
 
 part-curve-end : tie.Need-part-curve-end
-part-curve-end c = omega (arith, c .before .before .before .hour-places3 .ensures, few-hours _ _ (begins (c .before .before) .pre))
+part-curve-end c = omega (arith, so-many mostHours (c .before .before .before .hour-places3 .ensures), few-hours _ _ (begins (c .before .before) .pre))
 
 add-make : tie.Need-add-make
 add-make c = search needs
@@ -68,7 +70,7 @@ part-beginnings-start : tie.Need-part-beginnings-start
 part-beginnings-start c = search needs
 
 part-beginnings-end : tie.Need-part-beginnings-end
-part-beginnings-end c = omega (arith, c .before .before .before .beginning-places .ensures, few-hours _ _ (begins (c .before .before .before) .pre))
+part-beginnings-end c = omega (arith, so-many (suc mostHours) (c .before .before .before .beginning-places .ensures), few-hours _ _ (begins (c .before .before .before) .pre))
 
 make-requires : tie.Need-make-requires
 make-requires c κs =

@@ -1,6 +1,7 @@
 -- `month_prepare::weigh` meets its contract: `Weighing` says what W decides. Assumes nothing.
 use native.Mathlib.Omega.{arith}
-use Rattle.month_prepare.proofs.Preparing.{few-parties}
+use Rattle.rules.specs.Limits.{mostParties}
+use Rattle.month_prepare.proofs.Preparing.{so-many, few-parties}
 use Rattle.month_prepare.proofs.Weighing.{places-enough, read-again, few-shares, w-refused, startable, w-started}
 use borrow.Author.Needs.{needs}
 use Rattle.month_prepare.proofs.weigh.Statement.{statement}
@@ -35,7 +36,7 @@ part-shares-start : tie.Need-part-shares-start
 part-shares-start c = search needs
 
 part-shares-end : tie.Need-part-shares-end
-part-shares-end c = omega (arith, c .party-places .ensures, few-parties _ _ (c .before .before .before .pre))
+part-shares-end c = omega (arith, so-many mostParties (c .party-places .ensures), few-parties _ _ (c .before .before .before .pre))
 
 shares-requires : tie.Need-shares-requires
 shares-requires c κs = search needs
@@ -51,7 +52,7 @@ part-w-in-range-end c =
     let filled = c .before in
     let shares = filled .before in
     let start = begins shares in
-    places-enough _ _ (start .pre) _ _ (lends filled .party-places .ensures) (filled .shares3 .given) (shares .shares2 .ensures)
+    places-enough _ _ (start .pre) _ _ (so-many mostParties (lends filled .party-places .ensures)) (filled .shares3 .given) (shares .shares2 .ensures)
 
 w-in-range-requires : tie.Need-w-in-range-requires
 w-in-range-requires c κs =
@@ -59,7 +60,7 @@ w-in-range-requires c κs =
     let shares = filled .before in
     let start = begins shares in
     few-shares _ _ (start .pre)
-    (read-again _ _ (start .pre) _ _ (lends filled .party-places .ensures) (filled .shares3 .given) (shares .shares2 .ensures))
+    (read-again _ _ (start .pre) _ _ (so-many mostParties (lends filled .party-places .ensures)) (filled .shares3 .given) (shares .shares2 .ensures))
 
 enum-told : tie.Need-enum-told
 enum-told c = search needs
@@ -77,7 +78,7 @@ returns c =
     let shares = filled .before in
     let start = begins shares in
     w-refused _ _ (start .pre)
-    (read-again _ _ (start .pre) _ _ (lends filled .party-places .ensures) (filled .shares3 .given) (shares .shares2 .ensures))
+    (read-again _ _ (start .pre) _ _ (so-many mostParties (lends filled .party-places .ensures)) (filled .shares3 .given) (shares .shares2 .ensures))
     (told .w-in-range .ensures) (c .before .enum-told2 .given .1) _
 
 sub-start : tie.Need-sub-start
@@ -91,7 +92,7 @@ part-start-end c =
     let filled = fills (c .before .before .before) in
     let shares = filled .before in
     let start = begins shares in
-    places-enough _ _ (start .pre) _ _ (lends filled .party-places .ensures) (filled .shares3 .given) (shares .shares2 .ensures)
+    places-enough _ _ (start .pre) _ _ (so-many mostParties (lends filled .party-places .ensures)) (filled .shares3 .given) (shares .shares2 .ensures)
 
 start-requires : tie.Need-start-requires
 start-requires c κs =
@@ -101,7 +102,7 @@ start-requires c κs =
     let shares = filled .before in
     let start = begins shares in
     startable _ _ (start .pre)
-    (read-again _ _ (start .pre) _ _ (lends filled .party-places .ensures) (filled .shares3 .given) (shares .shares2 .ensures))
+    (read-again _ _ (start .pre) _ _ (so-many mostParties (lends filled .party-places .ensures)) (filled .shares3 .given) (shares .shares2 .ensures))
     (told .w-in-range .ensures) (right .enum-told .given .1)
 
 returns-2 : tie.Need-returns-2
@@ -112,7 +113,7 @@ returns-2 c =
     let shares = filled .before in
     let start = begins shares in
     w-started _ _ (start .pre)
-    (read-again _ _ (start .pre) _ _ (lends filled .party-places .ensures) (filled .shares3 .given) (shares .shares2 .ensures))
+    (read-again _ _ (start .pre) _ _ (so-many mostParties (lends filled .party-places .ensures)) (filled .shares3 .given) (shares .shares2 .ensures))
     (told .w-in-range .ensures) (right .enum-told .given .1) (c .start .ensures)
 
 pub weigh-spec : {M : Type 1} → statement M

@@ -98,7 +98,7 @@ same-length-4 : tie.Need-same-length-4
 same-length-4 c = c .losses-wh .given
 
 returns : tie.Need-returns
-returns c = c .before .before .before .before .before .before .run-hours .ensures
+returns c = c .before .before .before .before .before .before .run-hours .ensures .0
 
 pub run-spec : {M : Type 1} → statement M
 run-spec =

@@ -85,7 +85,7 @@ loop-again c =
     goes-on (start .pre .0) (start .pre .1 .1 .1 .inside) (loop .loop .inv) (omega arith) (step .step .ensures) (runs c .run-hour .ensures)
 
 same-length : tie.Need-same-length Inv-loop μ-loop
-same-length c = c .before .before .loop .inv .walked .holds .size ∙ sym (begins (c .before .before) .pre .1 .1 .0)
+same-length c = c .before .before .loop .inv .walked .holds .is .size ∙ sym (begins (c .before .before) .pre .1 .1 .0)
 
 same-length-2 : tie.Need-same-length-2 Inv-loop μ-loop
 same-length-2 c = c .before .before .loop .inv .running .distributed .size ∙ sym (begins (c .before .before) .pre .1 .1 .1 .distributed-size)
@@ -100,7 +100,9 @@ same-length-5 : tie.Need-same-length-5 Inv-loop μ-loop
 same-length-5 c = c .before .before .loop .inv .running .losses .size
 
 returns : tie.Need-returns Inv-loop μ-loop
-returns c = ends (begins (c .before .before) .pre .0) (c .before .before .loop .inv) (omega arith)
+returns c =
+    let round = c .before .before in
+    (ends (begins round .pre .0) (round .loop .inv) (omega arith), record { held = _; is = round .loop .inv .walked .holds .is })
 
 pub run-hours-spec : {M : Type 1} → statement M
 run-hours-spec =

@@ -1,7 +1,7 @@
 -- `report_figures::all_hours` meets its contract: what is made before the hours, and the hours. Assumes nothing.
 use Prim.Native.Nat.{suc, _+_, _≤_}
 use native.Mathlib.Omega.{arith}
-use Rattle.month_prepare.proofs.Preparing.{few-hours}
+use Rattle.month_prepare.proofs.Preparing.{so-many, few-hours}
 use Rattle.report_figures.proofs.Making.{sums-lent, part-enough, as-lent-again}
 use Rattle.rules.specs.Limits.{mostHours}
 use borrow.Author.Needs.{needs}
@@ -39,7 +39,7 @@ part-beginnings-start : tie.Need-part-beginnings-start
 part-beginnings-start c = search needs
 
 part-beginnings-end : tie.Need-part-beginnings-end
-part-beginnings-end c = omega (arith, places c .beginning-places .ensures, few c)
+part-beginnings-end c = omega (arith, so-many (suc mostHours) (places c .beginning-places .ensures), few c)
 
 make-requires : tie.Need-make-requires
 make-requires c κs =
@@ -67,7 +67,7 @@ part-pass-made-end c =
     let made = makes lent in
     let asks = made .before .before in
     part-enough (made .make .ensures) (begins asks .args .s .heading .hours + 1)
-    (places asks .beginning-places .result) (places asks .beginning-places .ensures) (few asks) (lent .beginnings2 .given)
+    (places asks .beginning-places .result) (so-many (suc mostHours) (places asks .beginning-places .ensures)) (few asks) (lent .beginnings2 .given)
 
 pass-made-requires : tie.Need-pass-made-requires
 pass-made-requires c κs =
@@ -78,7 +78,7 @@ pass-made-requires c κs =
       start .pre .accepted,
       (
         as-lent-again (made .make .ensures) (start .args .s .heading .hours + 1)
-            (places asks .beginning-places .result) (places asks .beginning-places .ensures) (few asks) (lent .beginnings2 .given),
+            (places asks .beginning-places .result) (so-many (suc mostHours) (places asks .beginning-places .ensures)) (few asks) (lent .beginnings2 .given),
         sums-lent (start .pre),
       ),
     )

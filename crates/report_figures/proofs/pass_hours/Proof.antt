@@ -60,7 +60,7 @@ enum-told-2 : tie.Need-enum-told-2 Inv-loop μ-loop
 enum-told-2 c = search needs
 
 same-length : tie.Need-same-length Inv-loop μ-loop
-same-length c = c .before .before .before .window .given ∙ loops (stopped c) .loop .inv .walked .holds .size ∙ sym (begins (loops (stopped c)) .pre .1 .1 .0)
+same-length c = c .before .before .before .window .given ∙ loops (stopped c) .loop .inv .walked .holds .is .size ∙ sym (begins (loops (stopped c)) .pre .1 .1 .0)
 
 same-length-2 : tie.Need-same-length-2 Inv-loop μ-loop
 same-length-2 c = loops (stopped c) .loop .inv .passed .distributed .size ∙ sym (begins (loops (stopped c)) .pre .1 .1 .1 .distributed-size)
@@ -69,7 +69,9 @@ same-length-3 : tie.Need-same-length-3 Inv-loop μ-loop
 same-length-3 c = loops (stopped c) .loop .inv .passed .periodised .size ∙ sym (begins (loops (stopped c)) .pre .1 .1 .1 .periodised-size)
 
 returns : tie.Need-returns Inv-loop μ-loop
-returns c = stops (begins (loops (stopped c)) .pre .0) (loops (stopped c) .loop .inv) (omega arith) (stopped c .step .ensures) (c .enum-told2 .given .1) _ _ _
+returns c =
+    let round = loops (stopped c) in
+    (stops (begins round .pre .0) (round .loop .inv) (omega arith) (stopped c .step .ensures) (c .enum-told2 .given .1) _ _ _, stopped c .step .ensures .window-is)
 
 pass-hour-requires : tie.Need-pass-hour-requires Inv-loop μ-loop
 pass-hour-requires c κs =
@@ -89,7 +91,7 @@ loop-again c =
     goes-on (begins round .pre .0) (round .loop .inv) (omega arith) (stepped .step .ensures) (told .enum-told .given .1) (passes c .pass-hour .ensures)
 
 same-length-4 : tie.Need-same-length-4 Inv-loop μ-loop
-same-length-4 c = c .before .before .loop .inv .walked .holds .size ∙ sym (begins (c .before .before) .pre .1 .1 .0)
+same-length-4 c = c .before .before .loop .inv .walked .holds .is .size ∙ sym (begins (c .before .before) .pre .1 .1 .0)
 
 same-length-5 : tie.Need-same-length-5 Inv-loop μ-loop
 same-length-5 c = c .before .before .loop .inv .passed .distributed .size ∙ sym (begins (c .before .before) .pre .1 .1 .1 .distributed-size)
@@ -98,7 +100,9 @@ same-length-6 : tie.Need-same-length-6 Inv-loop μ-loop
 same-length-6 c = c .before .before .loop .inv .passed .periodised .size ∙ sym (begins (c .before .before) .pre .1 .1 .1 .periodised-size)
 
 returns-2 : tie.Need-returns-2 Inv-loop μ-loop
-returns-2 c = ends (begins (c .before .before) .pre .0) (c .before .before .loop .inv) (omega arith)
+returns-2 c =
+    let round = c .before .before in
+    (ends (begins round .pre .0) (round .loop .inv) (omega arith), record { held = _; is = round .loop .inv .walked .holds .is })
 
 pub pass-hours-spec : {M : Type 1} → statement M
 pass-hours-spec =

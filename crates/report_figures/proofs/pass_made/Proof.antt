@@ -62,7 +62,7 @@ returns-2 : tie.Need-returns-2
 returns-2 c =
     let after-pass-hours = c .before .before .before .before .before in
     let passed = passes (after-pass-hours .before .before .before .before .before) in
-    numbers-made (begins passed .pre .1 .0) (passed .enum-told .given .1) (after-pass-hours .pass-hours .ensures)
+    numbers-made (begins passed .pre .1 .0) (passed .enum-told .given .1) (after-pass-hours .pass-hours .ensures .0)
 
 pub pass-made-spec : {M : Type 1} → statement M
 pass-made-spec =

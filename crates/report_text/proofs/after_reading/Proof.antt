@@ -1,6 +1,7 @@
 -- `report_text::after_reading` meets its contract: the places are enough for every month. Assumes nothing.
 use native.Mathlib.Omega.{arith}
-use Rattle.month_prepare.proofs.Preparing.{few-hours, few-refixed}
+use Rattle.month_prepare.proofs.Preparing.{so-many, few-hours, few-refixed}
+use Rattle.rules.specs.Limits.{mostHours}
 use borrow.Author.Needs.{needs}
 use Rattle.report_text.proofs.after_reading.Statement.{statement}
 use Rattle.report_text.proofs.after_reading.Tie as tie
@@ -40,7 +41,7 @@ part-fixed-wh-end : tie.Need-part-fixed-wh-end
 part-fixed-wh-end c =
     let after-hour-places = c .before .before .before .before in
     let start = after-hour-places .before .before .before .before .before .before in
-    omega (arith, after-hour-places .hour-places .ensures, few-hours _ _ (start .pre))
+    omega (arith, so-many mostHours (after-hour-places .hour-places .ensures), few-hours _ _ (start .pre))
 
 sub-with-places-2 : tie.Need-sub-with-places-2
 sub-with-places-2 c = search needs
@@ -52,7 +53,7 @@ part-refixed-wh-end : tie.Need-part-refixed-wh-end
 part-refixed-wh-end c =
     let after-hour-places2 = c .before .before .before .before in
     let start = after-hour-places2 .before .before .before .before .before .before .before in
-    omega (arith, after-hour-places2 .hour-places2 .ensures, few-refixed _ _ (start .pre))
+    omega (arith, so-many mostHours (after-hour-places2 .hour-places2 .ensures), few-refixed _ _ (start .pre))
 
 sub-with-places-3 : tie.Need-sub-with-places-3
 sub-with-places-3 c = search needs
@@ -64,7 +65,7 @@ part-curve-end : tie.Need-part-curve-end
 part-curve-end c =
     let after-hour-places3 = c .before .before .before .before in
     let start = after-hour-places3 .before .before .before .before .before .before .before .before in
-    omega (arith, after-hour-places3 .hour-places3 .ensures, few-hours _ _ (start .pre))
+    omega (arith, so-many mostHours (after-hour-places3 .hour-places3 .ensures), few-hours _ _ (start .pre))
 
 sub-with-places-4 : tie.Need-sub-with-places-4
 sub-with-places-4 c = search needs
