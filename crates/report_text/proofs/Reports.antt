@@ -2,7 +2,7 @@
 use mathlib.Core.Bool.{Bool, true, false, _&&_}
 use mathlib.Core.List.{List, _++_}
 use mathlib.Core.Path.{_≡_, refl, sym, _∙_, ap, ap₂}
-use Prim.Native.Nat.{ℕ}
+use Prim.Native.Nat.{ℕ, _<_}
 use native.Mathlib.Omega.{arith}
 use borrow.Author.Tests.{le-leb, leb-true}
 use lib.Dec.{leb}
@@ -17,7 +17,9 @@ use Rattle.report_text.proofs.Parts.{parts-make-the-report}
 use Rattle.file_sections.specs.Walk.{Accepted}
 use Rattle.file_sections.specs.declared.Sections.{Sections}
 use Rattle.file_sections.proofs.AcceptedFile.{read-as, month-of}
+use Rattle.file_sections.proofs.Walking.{too-long}
 use Rattle.rules.specs.HoursReport.{judgedReport, answeredReport, hoursReport}
+use Rattle.rules.specs.Limits.{longestFile}
 use Rattle.rules.specs.Month.{monthOf, monthVerdict, verdictOn, fileVerdict}
 use Rattle.rules.specs.MonthFile.{MonthFile, readMonth}
 use Rattle.rules.specs.Refusals as R
@@ -118,3 +120,8 @@ refusal-text file {r} {place} e = go (readMonth file) e
     go : (a : R.Answer MonthFile) → verdictOn a ≡ R.refused r place → answeredReport a ≡ refusalLine r place
     go (R.given m) f = ap (judgedReport m) f
     go (R.refusal x q) f = let same : x ≡ r = cc in let at : q ≡ place = cc in ap₂ refusalLine same at
+
+-- "An empty or too long file is refused before all else, place 0": the same line for every file that long
+pub too-long-line : (file : List ℕ) → longestFile < length file → hoursReport file ≡ refusalLine R.fileFault 0
+unfolding hoursReport answeredReport
+too-long-line file long = ap answeredReport (sym (too-long file (omega arith) long))

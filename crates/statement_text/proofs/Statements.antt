@@ -16,7 +16,8 @@ use Rattle.month_sums.specs.declared.Outcome.{Outcome}
 use Rattle.file_sections.specs.Walk.{Accepted}
 use Rattle.file_sections.specs.declared.Sections.{Sections}
 use Rattle.file_sections.proofs.AcceptedFile.{read-as, heading-text}
-use Rattle.rules.specs.Limits.{mostParties}
+use Rattle.file_sections.proofs.Walking.{too-long}
+use Rattle.rules.specs.Limits.{mostParties, longestFile}
 use Rattle.rules.specs.Month.{monthOf, monthVerdict, verdictOn, fileVerdict}
 use Rattle.rules.specs.MonthFile.{MonthFile, readMonth}
 use Rattle.rules.specs.Refusals as R
@@ -104,3 +105,8 @@ refusal-text file {r} {place} e = go (readMonth file) e
     go : (a : R.Answer MonthFile) → verdictOn a ≡ R.refused r place → T.answeredStatement a ≡ T.refusalLine r place
     go (R.given m) f = ap (T.judgedStatement m) f
     go (R.refusal x q) f = let same : x ≡ r = cc in let at : q ≡ place = cc in ap₂ T.refusalLine same at
+
+-- "An empty or too long file is refused before all else, place 0": the same line for every file that long
+pub too-long-line : (file : List ℕ) → longestFile < length file → T.statement file ≡ T.refusalLine R.fileFault 0
+unfolding T.statement T.answeredStatement
+too-long-line file long = ap T.answeredStatement (sym (too-long file (omega arith) long))
