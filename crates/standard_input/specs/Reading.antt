@@ -19,6 +19,12 @@ PieceWithin (P.Bytes n) most = (0 < n) × (n ≤ most)
 PieceWithin P.End most = Unit
 PieceWithin P.Failed most = Unit
 
+-- an input is too long only where it fills the buffer
+abbrev pub Full : Ending → ℕ → ℕ → Type 0
+Full Whole filled most = Unit
+Full TooLong filled most = filled ≡ most
+Full Failed filled most = Unit
+
 -- WHAT THE END OF THE READING SAYS, for each case in the words of the rules. An input that was read whole has no refusal of its own: its bytes are judged.
 -- "An empty or too long file is refused before all else, place 0". One that could not be read has no answer at all.
 abbrev pub ended : Ending → Option Verdict

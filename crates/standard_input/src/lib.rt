@@ -8,7 +8,7 @@ use libc::STDIN_FILENO;
 ghost use lib.ListN.{length, take};
 ghost use mathlib.Core.Path.{_≡_};
 ghost use Prim.Native.Nat.{_≤_};
-ghost use Rattle.standard_input.specs.Reading.{PieceWithin, ended, endedText};
+ghost use Rattle.standard_input.specs.Reading.{PieceWithin, Full, ended, endedText};
 ghost use Rattle.text.specs.Text.{longestRefusalLine};
 
 // What one read gives: bytes at the start of the part it was lent, the end of the input, or a failure.
@@ -59,7 +59,8 @@ fn read_past() -> Ending {
 
 // "Reads one month file from standard input.": piece by piece, however it arrives, until it ends or is too long.
 pub fn read_month(buffer: &mut [u8]) -> Input
-    ensures { λ i. ⌜ i .filled ≤ length (now (buffer .exit)) ⌝ }
+    ensures within { λ i. ⌜ i .filled ≤ length (now (buffer .exit)) ⌝ }
+    ensures full { λ i. ⌜ Full (i .ending) (i .filled) (length (now (buffer .exit))) ⌝ }
 {
     let mut filled: usize = 0;
     while filled < buffer.len() {
