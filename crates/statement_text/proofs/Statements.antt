@@ -23,7 +23,7 @@ use Rattle.rules.specs.MonthFile.{MonthFile, readMonth}
 use Rattle.rules.specs.Refusals as R
 use Rattle.rules.specs.Statement as T
 use Rattle.statement_text.specs.Lines.{Settled, allPartyLines, statementRoom}
-use Rattle.statement_text.specs.Stating.{textVerdict, Promised}
+use Rattle.statement_text.specs.Stating.{told, textVerdict, Promised}
 use Rattle.statement_text.specs.declared.Stated.the-variants as S
 use Rattle.statement_lines.specs.Rooms.{headingRoom, columnsRoom}
 use Rattle.text.specs.Text.{Put, LinePut, atStart}
@@ -70,12 +70,13 @@ module _ (file : List ℕ) (s : Sections) (ok : Accepted file s) {outcome : Outc
   unfolding textVerdict R.andThen
   text-verdict lent = ap (λ (v : R.Verdict). R.andThen v (R.unless (leb statementRoom lent) R.wrongLength 0)) file-accepted
 
-  pub too-short : (old : List ℕ) → length old < statementRoom → Promised file old (S.Refused WrongLength 0) old
-  unfolding R.answer R.afterwards R.unless
-  too-short old b =
-      let v : textVerdict file (length old) ≡ R.refused R.wrongLength 0 =
-      text-verdict (length old) ∙ ap (λ (t : Bool). R.unless t R.wrongLength 0) (lt-leb statementRoom (length old) b) in
-      record { answer = ap (λ (w : R.Verdict). R.answer w (length (T.statement file))) (sym v); contents = refl }
+  pub too-short :
+      (lent : ℕ) → lent < statementRoom → told (S.Refused WrongLength 0) ≡ R.answer (textVerdict file lent) (length (T.statement file))
+  unfolding R.answer R.unless
+  too-short lent b =
+      let v : textVerdict file lent ≡ R.refused R.wrongLength 0 =
+      text-verdict lent ∙ ap (λ (t : Bool). R.unless t R.wrongLength 0) (lt-leb statementRoom lent b) in
+      ap (λ (w : R.Verdict). R.answer w (length (T.statement file))) (sym v)
 
   pub stated : {old new : List ℕ} {n : ℕ} → statementRoom ≤ length old → LinePut (T.statementLines m) old 0 statementRoom new n → Promised file old (S.Lines n) new
   unfolding R.answer R.afterwards R.unless atStart
