@@ -1,12 +1,13 @@
 -- What stands at the starts of the buffers is the report of the file: an accepted month's three parts, or the refusal line alone.
 use mathlib.Core.List.{List, _++_, append-nil}
 use mathlib.Core.Path.{_≡_, sym, _∙_, ap, ap₂}
-use Prim.Native.Nat.{ℕ, _≤_, zero-le}
+use Prim.Native.Nat.{ℕ, zero-le}
 use borrow.Author.Tests.{le-leb}
 use lib.ListN.{length}
 use Rattle.answer.specs.Said.{named}
 use Rattle.answer.specs.declared.Refusal.{Refusal}
-use Rattle.hours.specs.Printed.{Prints}
+use Rattle.hours.specs.Printed.{Within, printed}
+use Rattle.hours.specs.declared.Parts.{Parts}
 use Rattle.report_text.specs.Lines.{firstRoom, restRoom, partiesRoom, firstPart, restPart, partiesPart, Roomy}
 use Rattle.report_text.specs.Reporting.{Lengths, lengthsOf, verdict, told, rooms, reportVerdict, Promised}
 use Rattle.report_text.specs.declared.Reported.{Reported}
@@ -16,25 +17,21 @@ use Rattle.rules.specs.HoursReport.{hoursReport}
 use Rattle.rules.specs.Month.{fileVerdict, monthOf}
 use Rattle.rules.specs.MonthFile.{MonthFile}
 use Rattle.rules.specs.Refusals.{Verdict, accepted, refused, wrongLength, unless, afterwards}
-use Rattle.rules.specs.Statement.{refusalLine}
 use Rattle.rules.proofs.Refusals.{then-accepted, both-accept, given-tells, refusal-tells}
-use Rattle.text.specs.Text.{Put, atStart}
-use Rattle.text.proofs.Stands.{Stands, stands-at-start, put-stands}
+use Rattle.text.specs.Text.{refusalText, atStart}
+use Rattle.text.proofs.Stands.{Stands, stands-at-start}
+
+-- the parts lie within the buffers, and one after the other they are the text
+abbrev pub Prints : List ℕ → Parts → List ℕ → List ℕ → List ℕ → Type 0
+Prints text p first rest parties = Within p first rest parties × (printed p first rest parties ≡ text)
 
 -- a text alone in the first buffer
-line-printed :
-    {text first after rest parties : List ℕ} {n : ℕ}
-    → Put text first 0 after n
-    → n ≤ length first
-    → Prints text (record { first = n; rest = 0; parties = 0 }) after rest parties
-line-printed put room =
-    let stands = put-stands put room in
-    record {
-      first-within = stands .0;
-      rest-within = zero-le;
-      parties-within = zero-le;
-      is = append-nil _ ∙ append-nil _ ∙ stands .1;
-    }
+pub alone-printed :
+    {text first rest parties : List ℕ} {p : Parts} {n : ℕ}
+    → p ≡ record { first = n; rest = 0; parties = 0 }
+    → Stands n first text
+    → Prints text p first rest parties
+alone-printed e stands = rw e (record { first-within = stands .0; rest-within = zero-le; parties-within = zero-le }, append-nil _ ∙ append-nil _ ∙ stands .1)
 
 module _ (file first rest parties : List ℕ) {first′ rest′ parties′ : List ℕ} {reported : Reported} (p : Promised file first rest parties reported first′ rest′ parties′) where
   abbrev m : MonthFile
@@ -69,15 +66,10 @@ module _ (file first rest parties : List ℕ) {first′ rest′ parties′ : Lis
     parties-stand = part-stands (partiesPart m) parties (p .all-parties) (ap (λ (l : Lengths). l .parties) (tells .1))
 
     pub lines-printed : Prints (hoursReport file) (record { first = a; rest = b; parties = c }) first′ rest′ parties′
-    lines-printed =
-        record {
-          first-within = first-stands .0;
-          rest-within = rest-stands .0;
-          parties-within = parties-stand .0;
-          is =
-              ap₂ _++_ (ap₂ _++_ (first-stands .1) (rest-stands .1)) (parties-stand .1)
-              ∙ sym (report-text file file-accepted);
-        }
+    lines-printed = (
+      record { first-within = first-stands .0; rest-within = rest-stands .0; parties-within = parties-stand .0 },
+      ap₂ _++_ (ap₂ _++_ (first-stands .1) (rest-stands .1)) (parties-stand .1) ∙ sym (report-text file file-accepted),
+    )
 
   -- A REFUSED ONE, in buffers that have their rooms: so 16 does not arise, and its report is the refusal line
   module _ (room : Roomy (length first) (length rest) (length parties)) where
@@ -87,12 +79,7 @@ module _ (file first rest parties : List ℕ) {first′ rest′ parties′ : Lis
         rw (le-leb firstRoom (length first) (room .first-room), le-leb restRoom (length rest) (room .rest-room), le-leb partiesRoom (length parties) (room .parties-room))
         (then-accepted (fileVerdict file))
 
-    pub refusal-printed :
-        {r : Refusal} {place n : ℕ} {after : List ℕ}
-        → reported ≡ Refused r place
-        → Put (refusalLine (named r) place) first′ 0 after n
-        → n ≤ length first′
-        → Prints (hoursReport file) (record { first = n; rest = 0; parties = 0 }) after rest′ parties′
-    refusal-printed {r} {place} {n} {after} e put fits =
+    pub refusal-printed : {r : Refusal} {place : ℕ} → reported ≡ Refused r place → refusalText (verdict reported) ≡ hoursReport file
+    refusal-printed {r} {place} e =
         let told-so : v ≡ refused (named r) place = refusal-tells v (lengthsOf m) (sym (ap told e) ∙ p .answer) in
-        rw (refusal-text file (sym only-the-file ∙ told-so)) (line-printed put fits)
+        ap (λ (x : Reported). refusalText (verdict x)) e ∙ sym (refusal-text file (sym only-the-file ∙ told-so))

@@ -2,7 +2,7 @@
 // each hour and a line for each party, or `refused N at P`.
 //
 // What is proved of it: it is safe and ends, given that each read and write returns; and the three parts that it makes for printing, one after the other, are the
-// report of the bytes read, for a file that is too long the refusal 1 at 0. That the bytes read are those of standard input, and that the parts are handed over in
+// report of the bytes read, and of an input that is too long that of any bytes so long. That the bytes read are those of standard input, and that the parts are handed over in
 // this order and arrive, no contract can say: those of `libc::read` and `libc::write` speak of the count of one call alone. tests/streams tries it.
 use libc::STDERR_FILENO;
 use libc::STDOUT_FILENO;
@@ -10,18 +10,17 @@ use report_text::Reported;
 use standard_input::Ending;
 ghost use lib.ListN.{length};
 ghost use mathlib.Core.Path.{_≡_};
-ghost use Rattle.hours.specs.Printed.{Prints};
+ghost use Rattle.hours.specs.Printed.{Within, printed};
 ghost use Rattle.report_text.specs.Lines.{Roomy, firstRoom, restRoom, partiesRoom};
 ghost use Rattle.rules.specs.HoursReport.{hoursReport};
+ghost use Rattle.standard_input.specs.Reading.{TextOf};
 
-// The most bytes of each part, and of a refusal line.
+// The most bytes of each part.
 const FIRST_ROOM: usize = report_text::FIRST_ROOM;
 
 const REST_ROOM: usize = report_text::REST_ROOM;
 
 const PARTIES_ROOM: usize = report_text::PARTIES_ROOM;
-
-const REFUSAL_ROOM: usize = text::LONGEST_REFUSAL_LINE;
 
 // How many bytes at the start of each buffer are printed, one part after the other.
 struct Parts {
@@ -49,27 +48,52 @@ fn parties_room() -> [u8; PARTIES_ROOM]
     [0; PARTIES_ROOM]
 }
 
-// The text of a file in three parts at the starts of the buffers: THE REPORT OF THE FILE. An accepted month's lines stand there already; a refusal line is the
-// first part, and there is no other.
+// A line alone: the first part, and there is no other.
+fn alone(bytes: usize) -> Parts
+    ensures { λ p. ⌜ p ≡ record { first = bytes; rest = 0; parties = 0 } ⌝ }
+{
+    Parts {
+        first: bytes,
+        rest: 0,
+        parties: 0,
+    }
+}
+
+// The text of a file in three parts at the starts of the buffers: THE REPORT OF THE FILE. A refusal goes to the line that is printed of it, alone; an
+// accepted month's lines are there already.
 fn file_text(file: &[u8], first: &mut [u8], rest: &mut [u8], parties: &mut [u8]) -> Parts
     requires { ⌜ Roomy (length (now first)) (length (now rest)) (length (now parties)) ⌝ }
-    ensures { λ p. ⌜ Prints (hoursReport (now (file .entry))) p (now (first .exit)) (now (rest .exit)) (now (parties .exit)) ⌝ }
+    ensures within { λ p. ⌜ Within p (now (first .exit)) (now (rest .exit)) (now (parties .exit)) ⌝ }
+    ensures text { λ p. ⌜ printed p (now (first .exit)) (now (rest .exit)) (now (parties .exit)) ≡ hoursReport (now (file .entry)) ⌝ }
 {
     let reported = report_text::report(file, first, rest, parties);
-    match reported {
-        Reported::Lines(a, b, c) => Parts {
-            first: a,
-            rest: b,
-            parties: c,
-        },
-        Reported::Refused(refusal, place) => {
-            let n = text::put_refusal(refusal, place, first);
-            Parts {
-                first: n,
-                rest: 0,
-                parties: 0,
-            }
-        }
+    let Reported::Lines(a, b, c) = reported else {
+        return alone(report_text::refusal_line(reported, first));
+    };
+    Parts {
+        first: a,
+        rest: b,
+        parties: c,
+    }
+}
+
+// The text of an input in the same parts, by how its reading ended: THE REPORT OF THE INPUT. Of one that is too long it is the same line, whatever its bytes; one
+// that could not be read has none.
+fn input_text(
+    ending: Ending,
+    file: &[u8],
+    first: &mut [u8],
+    rest: &mut [u8],
+    parties: &mut [u8],
+) -> Parts
+    requires { ⌜ Roomy (length (now first)) (length (now rest)) (length (now parties)) ⌝ }
+    ensures within { λ p. ⌜ Within p (now (first .exit)) (now (rest .exit)) (now (parties .exit)) ⌝ }
+    ensures text { λ p. ⌜ TextOf hoursReport ending (now (file .entry)) (printed p (now (first .exit)) (now (rest .exit)) (now (parties .exit))) ⌝ }
+{
+    match ending {
+        Ending::Whole => file_text(file, first, rest, parties),
+        Ending::TooLong => alone(standard_input::refusal_line(ending, first)),
+        Ending::Failed => alone(0),
     }
 }
 
@@ -95,22 +119,16 @@ fn print_parts(first: &[u8], rest: &[u8], parties: &[u8]) {
     }
 }
 
-// A file that was read whole: its report, or its refusal.
-fn print_file(file: &[u8]) {
+// An input that could be read: its report, or its refusal.
+fn print_input(ending: Ending, file: &[u8]) {
     let mut first = first_room();
     let mut rest = rest_room();
     let mut parties = parties_room();
-    let parts = file_text(file, &mut first, &mut rest, &mut parties);
+    let parts = input_text(ending, file, &mut first, &mut rest, &mut parties);
     let a = parts.first;
     let b = parts.rest;
     let c = parts.parties;
     print_parts(&first[0..a], &rest[0..b], &parties[0..c]);
-}
-
-fn print_too_long() {
-    let mut out = [0u8; REFUSAL_ROOM];
-    let n = text::put_too_long(&mut out);
-    print(&out[0..n]);
 }
 
 fn main() {
@@ -119,8 +137,7 @@ fn main() {
     let filled = input.filled;
     let ending = input.ending;
     match ending {
-        Ending::Whole => print_file(&buffer[0..filled]),
-        Ending::TooLong => print_too_long(),
         Ending::Failed => complain(b"hours: standard input cannot be read\n"),
+        _ => print_input(ending, &buffer[0..filled]),
     }
 }

@@ -1,8 +1,8 @@
 -- The report of a file: its parts in the three buffers, or its refusal.
-use mathlib.Core.Bool.{Bool, true, false, _&&_}
+use mathlib.Core.Bool.{Bool, true, not, _&&_}
 use mathlib.Core.List.{List, _++_}
 use mathlib.Core.Path.{_≡_, refl, sym, _∙_, ap, ap₂}
-use Prim.Native.Nat.{ℕ}
+use Prim.Native.Nat.{ℕ, _<_}
 use native.Mathlib.Omega.{arith}
 use borrow.Author.Tests.{le-leb, leb-true}
 use lib.Dec.{leb}
@@ -11,13 +11,16 @@ use Rattle.answer.specs.Said.{named}
 use Rattle.answer.specs.declared.Refusal.{Refusal}
 use Rattle.answer.specs.declared.Refusal.the-variants.{WrongLength}
 use Rattle.report_text.specs.Lines.{firstRoom, restRoom, partiesRoom, firstPart, restPart, partiesPart, Roomy}
-use Rattle.report_text.specs.Reporting.{lengthsOf, rooms, reportVerdict, Promised}
+use Rattle.report_text.specs.Reporting.{lengthsOf, told, rooms, reportVerdict, Promised}
 use Rattle.report_text.specs.declared.Reported.the-variants as S
 use Rattle.report_text.proofs.Parts.{parts-make-the-report}
 use Rattle.file_sections.specs.Walk.{Accepted}
 use Rattle.file_sections.specs.declared.Sections.{Sections}
 use Rattle.file_sections.proofs.AcceptedFile.{read-as, month-of}
+use Rattle.file_sections.proofs.Walking.{too-long}
+use Rattle.month_sums.proofs.Writing.{turned-false}
 use Rattle.rules.specs.HoursReport.{judgedReport, answeredReport, hoursReport}
+use Rattle.rules.specs.Limits.{longestFile}
 use Rattle.rules.specs.Month.{monthOf, monthVerdict, verdictOn, fileVerdict}
 use Rattle.rules.specs.MonthFile.{MonthFile, readMonth}
 use Rattle.rules.specs.Refusals as R
@@ -52,14 +55,18 @@ module _ (file : List ℕ) (s : Sections) (ok : Accepted file s) (no-refusal : m
   unfolding reportVerdict R.andThen
   report-verdict a b c = ap (λ (v : R.Verdict). R.andThen v (R.unless (rooms a b c) R.wrongLength 0)) file-accepted
 
-  module _ (first rest parties : List ℕ) where
-    pub too-short : rooms (length first) (length rest) (length parties) ≡ false → Promised file first rest parties (S.Refused WrongLength 0) first rest parties
-    unfolding R.answer R.afterwards R.unless
-    too-short short =
-        let v : reportVerdict file (length first) (length rest) (length parties) ≡ R.refused R.wrongLength 0 =
-        report-verdict (length first) (length rest) (length parties) ∙ ap (λ (t : Bool). R.unless t R.wrongLength 0) short in
-        record { answer = ap (λ (w : R.Verdict). R.answer w (lengthsOf m)) (sym v); first-hours = refl; other-hours = refl; all-parties = refl }
+  pub too-short :
+      (first rest parties : ℕ) {room : Bool}
+      → room ≡ rooms first rest parties
+      → not room ≡ true
+      → told (S.Refused WrongLength 0) ≡ R.answer (reportVerdict file first rest parties) (lengthsOf m)
+  unfolding R.answer R.unless
+  too-short first rest parties {room} is none =
+      let v : reportVerdict file first rest parties ≡ R.refused R.wrongLength 0 =
+      report-verdict first rest parties ∙ ap (λ (t : Bool). R.unless t R.wrongLength 0) (sym is ∙ turned-false room none) in
+      ap (λ (w : R.Verdict). R.answer w (lengthsOf m)) (sym v)
 
+  module _ (first rest parties : List ℕ) where
     pub reported :
         Roomy (length first) (length rest) (length parties)
         → {first′ rest′ parties′ : List ℕ} {a b c : ℕ}
@@ -118,3 +125,8 @@ refusal-text file {r} {place} e = go (readMonth file) e
     go : (a : R.Answer MonthFile) → verdictOn a ≡ R.refused r place → answeredReport a ≡ refusalLine r place
     go (R.given m) f = ap (judgedReport m) f
     go (R.refusal x q) f = let same : x ≡ r = cc in let at : q ≡ place = cc in ap₂ refusalLine same at
+
+-- "An empty or too long file is refused before all else, place 0": the same line for every file that long
+pub too-long-line : (file : List ℕ) → longestFile < length file → hoursReport file ≡ refusalLine R.fileFault 0
+unfolding hoursReport answeredReport
+too-long-line file long = ap answeredReport (sym (too-long file (omega arith) long))

@@ -14,7 +14,9 @@ use mir.Facts.{toZ-ofZ, fits-natAbs}
 use mir.Syntax.{w64}
 use mir.Val.{Fits, SFits, toZ, ofZ}
 use Rattle.libc.specs.Io.{Moved}
-use Rattle.standard_input.specs.Reading.{PieceWithin}
+use Rattle.standard_input.specs.Reading.{PieceWithin, Full}
+use Rattle.standard_input.specs.declared.Ending.{Ending}
+use Rattle.standard_input.specs.declared.Ending.the-variants.{Whole, TooLong, Failed}
 use Rattle.standard_input.specs.declared.Piece.{Piece}
 use Rattle.standard_input.specs.declared.Piece.the-variants as P
 
@@ -64,3 +66,9 @@ turn {lent} {buffer} part {filled} {n} so-far back is within =
       again = record { size = back .1 ∙ so-far .size; bound = omega (arith, back .1, room) };
       less = omega (arith, back .1, got .0, room);
     }
+
+-- after the loop: the buffer is full, however the input then goes on
+pub full : (ending : Ending) {lent buffer : List ℕ} {filled : ℕ} → Filled lent buffer filled → length buffer ≤ filled → (filled ≤ length buffer) × Full ending filled (length buffer)
+full Whole so-far at-end = (so-far .bound, tt)
+full TooLong so-far at-end = (so-far .bound, omega (arith, so-far .bound, at-end))
+full Failed so-far at-end = (so-far .bound, tt)

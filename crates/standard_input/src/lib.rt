@@ -3,10 +3,13 @@
 // What is proved: each function is safe and ends, given that each read returns; and what was read lies within the buffer. What no contract can say, since that of
 // `libc::read` speaks of the count of one call alone: that the bytes of the buffer are those of standard input, all of them. tests/streams tries that on the running
 // programs. Each program writes by itself: of `io::write_all` nothing is promised, so nothing could be promised of a public function that calls it.
+use answer::Refusal;
 use libc::STDIN_FILENO;
-ghost use lib.ListN.{length};
+ghost use lib.ListN.{length, take};
+ghost use mathlib.Core.Path.{_≡_};
 ghost use Prim.Native.Nat.{_≤_};
-ghost use Rattle.standard_input.specs.Reading.{PieceWithin};
+ghost use Rattle.standard_input.specs.Reading.{PieceWithin, Full, ended, endedText};
+ghost use Rattle.text.specs.Text.{longestRefusalLine};
 
 // What one read gives: bytes at the start of the part it was lent, the end of the input, or a failure.
 enum Piece {
@@ -56,7 +59,8 @@ fn read_past() -> Ending {
 
 // "Reads one month file from standard input.": piece by piece, however it arrives, until it ends or is too long.
 pub fn read_month(buffer: &mut [u8]) -> Input
-    ensures { λ i. ⌜ i .filled ≤ length (now (buffer .exit)) ⌝ }
+    ensures within { λ i. ⌜ i .filled ≤ length (now (buffer .exit)) ⌝ }
+    ensures full { λ i. ⌜ Full (i .ending) (i .filled) (length (now (buffer .exit))) ⌝ }
 {
     let mut filled: usize = 0;
     while filled < buffer.len() {
@@ -83,5 +87,19 @@ pub fn read_month(buffer: &mut [u8]) -> Input
     Input {
         filled: filled,
         ending: ending,
+    }
+}
+
+// "An empty or too long file is refused before all else, place 0": the line of that refusal at the start of `out`, and its length, for the programs. An input that
+// was read whole has no refusal of its own, and one that could not be read no answer.
+pub fn refusal_line(ending: Ending, out: &mut [u8]) -> usize
+    requires { ⌜ longestRefusalLine ≤ length (now out) ⌝ }
+    ensures within { λ n. ⌜ n ≤ length (now (out .exit)) ⌝ }
+    ensures text { λ n. ⌜ take n (now (out .exit)) ≡ endedText (ended ending) ⌝ }
+{
+    match ending {
+        Ending::Whole => 0,
+        Ending::TooLong => text::put_refusal(Refusal::FileFault, 0, out),
+        Ending::Failed => 0,
     }
 }

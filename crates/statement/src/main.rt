@@ -1,7 +1,7 @@
 // THE STATEMENT PROGRAM (01 "The statement program"): it reads one month file from standard input and prints its statement, or `refused N at P`.
 //
 // What is proved of it: it is safe and ends, given that each read and write returns; and the text that it makes for printing is the
-// statement of the bytes read, for a file that is too long the refusal 1 at 0. That the bytes read are those of standard input, and that the text arrives, no
+// statement of the bytes read, and of an input that is too long that of any bytes so long. That the bytes read are those of standard input, and that the text arrives, no
 // contract can say: those of `libc::read` and `libc::write` speak of the count of one call alone. tests/streams tries it.
 use libc::STDERR_FILENO;
 use libc::STDOUT_FILENO;
@@ -11,6 +11,7 @@ ghost use lib.ListN.{length, take};
 ghost use mathlib.Core.Path.{_≡_};
 ghost use Prim.Native.Nat.{_≤_};
 ghost use Rattle.rules.specs.Statement.{statement};
+ghost use Rattle.standard_input.specs.Reading.{TextOf};
 ghost use Rattle.statement_text.specs.Lines.{statementRoom};
 
 // The most bytes of a statement.
@@ -36,6 +37,20 @@ fn file_text(file: &[u8], out: &mut [u8]) -> usize
     n
 }
 
+// The text of an input at the start of `out`, by how its reading ended: THE STATEMENT OF THE INPUT. Of one that is too long it is the same line, whatever its bytes;
+// one that could not be read has none.
+fn input_text(ending: Ending, file: &[u8], out: &mut [u8]) -> usize
+    requires { ⌜ statementRoom ≤ length (now out) ⌝ }
+    ensures within { λ n. ⌜ n ≤ length (now (out .exit)) ⌝ }
+    ensures text { λ n. ⌜ TextOf statement ending (now (file .entry)) (take n (now (out .exit))) ⌝ }
+{
+    match ending {
+        Ending::Whole => file_text(file, out),
+        Ending::TooLong => standard_input::refusal_line(ending, out),
+        Ending::Failed => 0,
+    }
+}
+
 // Says a failure on standard error; where that fails too, there is nowhere left to say it. A program has no exit status: a failure is told here alone, with no
 // answer or a part of one on standard output.
 fn complain(message: &[u8]) {
@@ -50,16 +65,10 @@ fn print(text: &[u8]) {
     }
 }
 
-// A file that was read whole: its statement, or its refusal.
-fn print_file(file: &[u8]) {
+// An input that could be read: its statement, or its refusal.
+fn print_input(ending: Ending, file: &[u8]) {
     let mut out = room();
-    let n = file_text(file, &mut out);
-    print(&out[0..n]);
-}
-
-fn print_too_long() {
-    let mut out = room();
-    let n = text::put_too_long(&mut out);
+    let n = input_text(ending, file, &mut out);
     print(&out[0..n]);
 }
 
@@ -69,8 +78,7 @@ fn main() {
     let filled = input.filled;
     let ending = input.ending;
     match ending {
-        Ending::Whole => print_file(&buffer[0..filled]),
-        Ending::TooLong => print_too_long(),
         Ending::Failed => complain(b"statement: standard input cannot be read\n"),
+        _ => print_input(ending, &buffer[0..filled]),
     }
 }

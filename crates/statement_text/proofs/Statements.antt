@@ -16,13 +16,14 @@ use Rattle.month_sums.specs.declared.Outcome.{Outcome}
 use Rattle.file_sections.specs.Walk.{Accepted}
 use Rattle.file_sections.specs.declared.Sections.{Sections}
 use Rattle.file_sections.proofs.AcceptedFile.{read-as, heading-text}
-use Rattle.rules.specs.Limits.{mostParties}
+use Rattle.file_sections.proofs.Walking.{too-long}
+use Rattle.rules.specs.Limits.{mostParties, longestFile}
 use Rattle.rules.specs.Month.{monthOf, monthVerdict, verdictOn, fileVerdict}
 use Rattle.rules.specs.MonthFile.{MonthFile, readMonth}
 use Rattle.rules.specs.Refusals as R
 use Rattle.rules.specs.Statement as T
 use Rattle.statement_text.specs.Lines.{Settled, allPartyLines, statementRoom}
-use Rattle.statement_text.specs.Stating.{textVerdict, Promised}
+use Rattle.statement_text.specs.Stating.{told, textVerdict, Promised}
 use Rattle.statement_text.specs.declared.Stated.the-variants as S
 use Rattle.statement_lines.specs.Rooms.{headingRoom, columnsRoom}
 use Rattle.text.specs.Text.{Put, LinePut, atStart}
@@ -69,12 +70,13 @@ module _ (file : List ℕ) (s : Sections) (ok : Accepted file s) {outcome : Outc
   unfolding textVerdict R.andThen
   text-verdict lent = ap (λ (v : R.Verdict). R.andThen v (R.unless (leb statementRoom lent) R.wrongLength 0)) file-accepted
 
-  pub too-short : (old : List ℕ) → length old < statementRoom → Promised file old (S.Refused WrongLength 0) old
-  unfolding R.answer R.afterwards R.unless
-  too-short old b =
-      let v : textVerdict file (length old) ≡ R.refused R.wrongLength 0 =
-      text-verdict (length old) ∙ ap (λ (t : Bool). R.unless t R.wrongLength 0) (lt-leb statementRoom (length old) b) in
-      record { answer = ap (λ (w : R.Verdict). R.answer w (length (T.statement file))) (sym v); contents = refl }
+  pub too-short :
+      (lent : ℕ) → lent < statementRoom → told (S.Refused WrongLength 0) ≡ R.answer (textVerdict file lent) (length (T.statement file))
+  unfolding R.answer R.unless
+  too-short lent b =
+      let v : textVerdict file lent ≡ R.refused R.wrongLength 0 =
+      text-verdict lent ∙ ap (λ (t : Bool). R.unless t R.wrongLength 0) (lt-leb statementRoom lent b) in
+      ap (λ (w : R.Verdict). R.answer w (length (T.statement file))) (sym v)
 
   pub stated : {old new : List ℕ} {n : ℕ} → statementRoom ≤ length old → LinePut (T.statementLines m) old 0 statementRoom new n → Promised file old (S.Lines n) new
   unfolding R.answer R.afterwards R.unless atStart
@@ -104,3 +106,8 @@ refusal-text file {r} {place} e = go (readMonth file) e
     go : (a : R.Answer MonthFile) → verdictOn a ≡ R.refused r place → T.answeredStatement a ≡ T.refusalLine r place
     go (R.given m) f = ap (T.judgedStatement m) f
     go (R.refusal x q) f = let same : x ≡ r = cc in let at : q ≡ place = cc in ap₂ T.refusalLine same at
+
+-- "An empty or too long file is refused before all else, place 0": the same line for every file that long
+pub too-long-line : (file : List ℕ) → longestFile < length file → T.statement file ≡ T.refusalLine R.fileFault 0
+unfolding T.statement T.answeredStatement
+too-long-line file long = ap T.answeredStatement (sym (too-long file (omega arith) long))

@@ -8,15 +8,15 @@ use Rattle.answer.specs.Said.{named}
 use Rattle.answer.specs.declared.Refusal.{Refusal}
 use Rattle.rules.specs.Month.{fileVerdict}
 use Rattle.rules.specs.Refusals.{Verdict, refused, unless, afterwards}
-use Rattle.rules.specs.Statement.{statement, refusalLine}
+use Rattle.rules.specs.Statement.{statement}
 use Rattle.rules.proofs.Refusals.{then-accepted, given-tells, refusal-tells}
 use Rattle.statement_text.specs.Lines.{statementRoom}
-use Rattle.statement_text.specs.Stating.{verdict, told, textVerdict, Promised, refusalText}
+use Rattle.statement_text.specs.Stating.{verdict, told, textVerdict, Promised}
 use Rattle.statement_text.specs.declared.Stated.{Stated}
 use Rattle.statement_text.specs.declared.Stated.the-variants.{Lines, Refused}
 use Rattle.statement_text.proofs.Statements.{refusal-text}
-use Rattle.text.specs.Text.{Put, atStart}
-use Rattle.text.proofs.Stands.{Stands, stands-at-start, put-stands}
+use Rattle.text.specs.Text.{refusalText, atStart}
+use Rattle.text.proofs.Stands.{Stands, stands-at-start}
 
 module _ (file old : List ℕ) {new : List ℕ} {stated : Stated} (p : Promised file old stated new) where
   abbrev v : Verdict
@@ -36,12 +36,7 @@ module _ (file old : List ℕ) {new : List ℕ} {stated : Stated} (p : Promised 
     unfolding textVerdict unless
     only-the-file = rw (le-leb statementRoom (length old) room) (then-accepted (fileVerdict file))
 
-    pub refusal-printed : {r : Refusal} {place : ℕ} → stated ≡ Refused r place → refusalText stated ≡ statement file
+    pub refusal-printed : {r : Refusal} {place : ℕ} → stated ≡ Refused r place → refusalText (verdict stated) ≡ statement file
     refusal-printed {r} {place} e =
         let told-so : v ≡ refused (named r) place = refusal-tells v (length (statement file)) (sym (ap told e) ∙ p .answer) in
-        ap refusalText e ∙ sym (refusal-text file (sym only-the-file ∙ told-so))
-
--- the line of a refusal was put at the start of a buffer with room for it
-pub line-stands : {stated : Stated} {r : Refusal} {place n : ℕ} {before after : List ℕ} → stated ≡ Refused r place → Put (refusalLine (named r) place) before 0 after n → n ≤ length before
-    → Stands n after (refusalText stated)
-line-stands e put room = rw e (put-stands put room)
+        ap (λ (s : Stated). refusalText (verdict s)) e ∙ sym (refusal-text file (sym only-the-file ∙ told-so))

@@ -1,5 +1,5 @@
 -- The promise of the statement's text: from the bytes of a file to the bytes of its statement, or the refusal.
-use mathlib.Core.List.{List, []}
+use mathlib.Core.List.{List}
 use mathlib.Core.Path.{_≡_}
 use Prim.Native.Nat.{ℕ}
 use lib.Dec.{leb}
@@ -29,8 +29,3 @@ textVerdict file lent = R.andThen (fileVerdict file) (R.unless (leb statementRoo
 pub record Promised (file old : List ℕ) (r : Stated) (new : List ℕ) : Type 0 where
   pub answer : told r ≡ R.answer (textVerdict file (length old)) (length (T.statement file))
   pub contents : new ≡ R.afterwards (verdict r) (atStart (T.statement file) old) old
-
--- "On refusal it prints one line, `refused N at P`."; an accepted month has none
-abbrev pub refusalText : Stated → List ℕ
-refusalText (Lines n) = []
-refusalText (Refused r place) = T.refusalLine (named r) place

@@ -6,7 +6,9 @@ use native.Mathlib.Nat.{zero-add}
 use native.Mathlib.Omega.{arith}
 use lib.ListN.{length, take, drop, length-append}
 use lib.Seq.{take-at}
-use Rattle.text.specs.Text.{Put, atStart}
+use Rattle.rules.specs.Refusals.{Refusal, Verdict, refused}
+use Rattle.rules.specs.Statement.{refusalLine}
+use Rattle.text.specs.Text.{Put, refusalText, atStart}
 use Rattle.text.proofs.Puts.{put-at-start}
 
 abbrev pub Stands : ℕ → List ℕ → List ℕ → Type 0
@@ -22,3 +24,12 @@ unfolding atStart
 put-stands {text} {before} {after} {end} put room =
     let long : end ≡ length text = put .ends ∙ zero-add (length text) in
     rw (put-at-start put room, long) (stands-at-start text before)
+
+-- and the line of a refusal
+pub line-stands :
+    {v : Verdict} {r : Refusal} {place end : ℕ} {before after : List ℕ}
+    → v ≡ refused r place
+    → Put (refusalLine r place) before 0 after end
+    → end ≤ length before
+    → Stands end after (refusalText v)
+line-stands e put room = rw e (put-stands put room)

@@ -1,11 +1,13 @@
 -- What putting a text into a lent buffer means, and the room that a number, a column and the refusal line take (01 "The statement program").
 -- The texts themselves stand in the rules.
-use mathlib.Core.List.{List, _++_}
+use mathlib.Core.List.{List, [], _++_}
 use mathlib.Core.Path.{_≡_}
 use Prim.Native.Nat.{ℕ, _+_, _*_, _≤_}
 use lib.ListN.{length, drop}
 use lib.Seq.{sets}
 use Rattle.rules.specs.Limits.{glnDigits}
+use Rattle.rules.specs.Refusals.{Verdict, accepted, refused}
+use Rattle.rules.specs.Statement.{refusalLine}
 
 -- a text stands in a buffer from a place on, and nothing else in it was touched; the place after the text is told
 pub record Put (text before : List ℕ) (place : ℕ) (after : List ℕ) (end : ℕ) : Type 0 where
@@ -33,9 +35,14 @@ columnRoom = 1 + mostDigits
 abbrev pub energiesRoom : ℕ
 energiesRoom = 2 * columnRoom
 
--- the most bytes of a refusal line: "refused " 8, its number 2, " at " 4, the place 20, and the newline
+-- the most bytes of a refusal line: "refused " 8, its number 2, " at " 4, the place 20 (a number of 64 bits), and the newline
 abbrev pub longestRefusalLine : ℕ
 longestRefusalLine = 8 + 2 + 4 + mostDigits + 1
+
+-- "On refusal it prints one line, `refused N at P`."; what is accepted has none
+abbrev pub refusalText : Verdict → List ℕ
+refusalText accepted = []
+refusalText (refused r place) = refusalLine r place
 
 -- a text at the start of a lent buffer, "nothing further on touched"
 unfoldable pub atStart : List ℕ → List ℕ → List ℕ

@@ -5,15 +5,11 @@ ghost use mathlib.Core.List.{_∷_, [], _++_};
 ghost use mathlib.Core.Path.{_≡_};
 ghost use Prim.Native.Nat.{_+_, _%_, _≤_, _<_};
 ghost use lib.IntN.{natAbs};
-ghost use lib.ListN.{length, take};
+ghost use lib.ListN.{length};
 ghost use Rattle.answer.specs.Said.{named};
-ghost use Rattle.rules.specs.Refusals.{fileFault};
 ghost use Rattle.rules.specs.Statement.{decimal, signedDecimal, digitsOfWidth, refusalLine};
 ghost use Rattle.rules.specs.Words.{ascii};
 ghost use Rattle.text.specs.Text.{Put, mostDigits, columnRoom, energiesRoom, longestRefusalLine};
-
-// The most bytes of a refusal line: "refused " 8, its number 2, " at " 4, the place 20 (a place is a number of 64 bits), and the newline 1.
-pub const LONGEST_REFUSAL_LINE: usize = 35;
 
 // The last digit of a number.
 fn put_digit(out: &mut [u8], place: usize, n: u64) -> usize
@@ -143,13 +139,4 @@ pub fn put_refusal(refusal: Refusal, place: usize, out: &mut [u8]) -> usize
     let after_number = put_word_number(out, 0, b"refused ", number);
     let after_place = put_word_number(out, after_number, b" at ", place as u64);
     put_bytes(out, after_place, b"\n")
-}
-
-// "An empty or too long file is refused before all else, place 0": of a file that is longer than a program can read, what it prints.
-pub fn put_too_long(out: &mut [u8]) -> usize
-    requires { ⌜ longestRefusalLine ≤ length (now out) ⌝ }
-    ensures within { λ n. ⌜ n ≤ length (now (out .exit)) ⌝ }
-    ensures text { λ n. ⌜ take n (now (out .exit)) ≡ refusalLine fileFault 0 ⌝ }
-{
-    put_refusal(Refusal::FileFault, 0, out)
 }

@@ -1,6 +1,6 @@
 -- `hours::file_text` meets its contract: what is printed, one part after the other, is the report of the file. Assumes nothing.
-use native.Mathlib.Omega.{arith}
-use Rattle.hours.proofs.Texts.{lines-printed, refusal-printed}
+use mathlib.Core.Path.{_∙_}
+use Rattle.hours.proofs.Texts.{alone-printed, lines-printed, refusal-printed}
 use borrow.Author.Needs.{needs}
 use Rattle.hours.proofs.file_text.Statement.{statement}
 use Rattle.hours.proofs.file_text.Tie as tie
@@ -11,11 +11,14 @@ report-requires c κs = search needs
 enum-known-reported : tie.Need-enum-known-reported
 enum-known-reported c = search needs
 
-enum-known-reported-2 : tie.Need-enum-known-reported-2
-enum-known-reported-2 c = search needs
+enum-told : tie.Need-enum-told
+enum-told c = search needs
 
-put-refusal-requires : tie.Need-put-refusal-requires
-put-refusal-requires c κs = search needs
+refusal-line-requires : tie.Need-refusal-line-requires
+refusal-line-requires c κs = search needs
+
+alone-requires : tie.Need-alone-requires
+alone-requires c κs = search needs
 
 same-length : tie.Need-same-length
 same-length c = search needs
@@ -28,8 +31,12 @@ same-length-3 c = search needs
 
 returns : tie.Need-returns
 returns c =
-    let after-report = c .before .before .before .before .before .before .before .before .before in
-    lines-printed _ _ _ _ (after-report .report .ensures) (c .before .reported .given .1)
+    let line = c .before .before .before in
+    let refused = line .before .before in
+    let reporting = refused .before .before .before .before .before .before .before .before in
+    let start = reporting .before .before .before .before .before .before .before .before in
+    alone-printed (c .alone .ensures)
+    (line .refusal-line .ensures .0, line .refusal-line .ensures .1 ∙ refusal-printed _ _ _ _ (reporting .report .ensures) (start .pre) (refused .enum-told .given .1))
 
 same-length-4 : tie.Need-same-length-4
 same-length-4 c = search needs
@@ -42,14 +49,8 @@ same-length-6 c = search needs
 
 returns-2 : tie.Need-returns-2
 returns-2 c =
-    let after-put-refusal = c .before .before in
-    let after-reported2 = after-put-refusal .before .before .before in
-    let after-first = after-reported2 .before .before .before .before .before .before .before in
-    let after-report = after-first .before in
-    let start = after-report .before .before .before .before .before .before .before .before in
-    refusal-printed _ _ _ _ (after-report .report .ensures) (start .pre) (after-reported2 .reported2 .given .1)
-    (after-put-refusal .put-refusal .ensures .0)
-    (omega (arith, after-put-refusal .put-refusal .ensures .1, start .pre .first-room, after-first .first .given))
+    let reporting = c .before .before .before .before .before .before .before .before .before in
+    lines-printed _ _ _ _ (reporting .report .ensures) (c .before .reported .given .1)
 
 pub file-text-spec : {M : Type 1} → statement M
 file-text-spec =
@@ -57,8 +58,9 @@ file-text-spec =
     (tie.spec
     report-requires
     enum-known-reported
-    enum-known-reported-2
-    put-refusal-requires
+    enum-told
+    refusal-line-requires
+    alone-requires
     same-length
     same-length-2
     same-length-3

@@ -2,7 +2,8 @@
 use mathlib.Core.Path.{refl, sym, _∙_}
 use Rattle.report_text.proofs.Making.{month-refused, no-refusal, known, distanced, counted}
 use Rattle.report_text.proofs.Reports.{roomy, too-short, refused-file}
-use Rattle.month_sums.proofs.Writing.{turned-false, turned-true}
+use Rattle.month_sums.proofs.Writing.{turned-true}
+use Rattle.rules.specs.Refusals.{afterwards}
 use borrow.Author.Needs.{needs}
 use Rattle.report_text.proofs.after_figures.Statement.{statement}
 use Rattle.report_text.proofs.after_figures.Tie as tie
@@ -17,11 +18,8 @@ has-room-requires : tie.Need-has-room-requires
 has-room-requires c κs = search needs
 
 returns : tie.Need-returns
-returns c =
-    let after-enum-told = c .before .before in
-    let start = after-enum-told .before .before .before .before .before .before .before .before .before .before in
-    too-short _ _ (start .pre .0) (no-refusal _ _ (start .pre .0) (start .pre .1) (after-enum-told .enum-told .given .1)) _ _ _
-    (sym (c .before .has-room .ensures) ∙ turned-false _ (c .if1 .taken))
+unfolding afterwards
+returns c = record { answer = search (needs, too-short, no-refusal); first-hours = refl; other-hours = refl; all-parties = refl }
 
 applied-requires : tie.Need-applied-requires
 applied-requires c κs = search needs

@@ -5,7 +5,7 @@ use Prim.Native.Nat.{ℕ, _-_}
 use native.Mathlib.Omega.{arith}
 use borrow.Author.Needs.{needs}
 use lib.ListN.{length}
-use Rattle.standard_input.proofs.Counts.{Filled, Turn, turn}
+use Rattle.standard_input.proofs.Counts.{Filled, Turn, turn, full}
 use Rattle.standard_input.proofs.read_month.Statement.{statement}
 use Rattle.standard_input.proofs.read_month.Tie as tie
 
@@ -85,7 +85,7 @@ same-length-3 : tie.Need-same-length-3 Inv-loop μ-loop
 same-length-3 c = search needs
 
 returns-3 : tie.Need-returns-3 Inv-loop μ-loop
-returns-3 c = search needs
+returns-3 c = full (c .read-past .result) (c .before .before .loop .inv) (c .before .loop-test .left)
 
 pub read-month-spec : {M : Type 1} → statement M
 read-month-spec =

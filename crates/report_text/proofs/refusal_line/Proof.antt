@@ -1,0 +1,36 @@
+-- `report_text::refusal_line` meets its contract: the buffer has room, so the line stands at its start. Assumes nothing.
+use native.Mathlib.Omega.{arith}
+use mathlib.Core.Path.{ap}
+use Rattle.report_text.specs.Reporting.{verdict}
+use Rattle.text.proofs.Stands.{line-stands}
+use borrow.Author.Needs.{needs}
+use Rattle.report_text.proofs.refusal_line.Statement.{statement}
+use Rattle.report_text.proofs.refusal_line.Tie as tie
+
+enum-told : tie.Need-enum-told
+enum-told c = search needs
+
+enum-known-reported : tie.Need-enum-known-reported
+enum-known-reported c = search needs
+
+put-refusal-requires : tie.Need-put-refusal-requires
+put-refusal-requires c κs = search needs
+
+returns : tie.Need-returns
+returns c = search needs
+
+same-length : tie.Need-same-length
+same-length c = search needs
+
+returns-2 : tie.Need-returns-2
+returns-2 c =
+    let after-put-refusal = c .before .before in
+    let after-reported = after-put-refusal .before .before .before in
+    let start = after-reported .before .before .before in
+    line-stands (ap verdict (after-reported .reported .given .1)) (after-put-refusal .put-refusal .ensures .0)
+    (omega (arith, after-put-refusal .put-refusal .ensures .1, start .pre))
+
+pub refusal-line-spec : {M : Type 1} → statement M
+refusal-line-spec =
+    tie.close
+    (tie.spec enum-told enum-known-reported put-refusal-requires returns same-length returns-2)

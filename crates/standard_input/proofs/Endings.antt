@@ -1,0 +1,39 @@
+-- What is printed of an input, by how its reading ended: of one that is too long its refusal line, which stands at the start of the buffer; and that this is its
+-- report, one law for every program whose report of an input that is too long is that line.
+use mathlib.Core.List.{List}
+use mathlib.Core.Path.{_≡_, sym, _∙_, ap}
+use Prim.Native.Nat.{ℕ, _≤_, _<_}
+use lib.ListN.{length}
+use Rattle.rules.specs.Limits.{longestFile}
+use Rattle.rules.specs.Refusals.{fileFault}
+use Rattle.rules.specs.Statement.{refusalLine}
+use Rattle.standard_input.specs.Reading.{ended, endedText, TextOf}
+use Rattle.standard_input.specs.declared.Ending.{Ending}
+use Rattle.standard_input.specs.declared.Ending.the-variants.{Whole, TooLong, Failed}
+use Rattle.text.specs.Text.{Put}
+use Rattle.text.proofs.Stands.{Stands, put-stands}
+
+pub too-long-stands :
+    {ending : Ending} {end : ℕ} {before after : List ℕ}
+    → ending ≡ TooLong
+    → Put (refusalLine fileFault 0) before 0 after end
+    → end ≤ length before
+    → Stands end after (endedText (ended ending))
+too-long-stands e put room = rw e (put-stands put room)
+
+module _ (report : List ℕ → List ℕ) (bytes : List ℕ) {ending : Ending} {printed : List ℕ} where
+  -- read whole: the report of the bytes
+  pub whole-text : ending ≡ Whole → printed ≡ report bytes → TextOf report ending bytes printed
+  whole-text e is = rw e (λ input same. is ∙ ap report (sym same))
+
+  -- TOO LONG: the line is the report of any input that long
+  pub too-long-text :
+      ((input : List ℕ) → longestFile < length input → report input ≡ refusalLine fileFault 0)
+      → ending ≡ TooLong
+      → printed ≡ endedText (ended ending)
+      → TextOf report ending bytes printed
+  too-long-text line e is = rw e (λ input long. is ∙ ap (λ (x : Ending). endedText (ended x)) e ∙ sym (line input long))
+
+  -- it could not be read: there is no such input
+  pub failed-text : ending ≡ Failed → TextOf report ending bytes printed
+  failed-text e = rw e (λ input never. absurd never)
