@@ -44,7 +44,7 @@ unfolding answer
 verdict-back accepted n = refl
 verdict-back (refused why place) n = refl
 
-wrote-nothing : (r : Record) (lent : List ℕ) (v : Verdict) → Unwritten (Refuses wroteVerdict) lent (λ (w : Written) (held : List ℕ). Write.Promised r lent v (Write.wrote w) held)
+wrote-nothing : (r : Record) (lent : List ℕ) (v : Verdict) → Unwritten (Refuses wroteVerdict) lent (λ (w : Written) (held : List ℕ). Write.WrittenUnder r lent v (Write.wrote w) held)
 unfolding Unwritten
 wrote-nothing r lent v w held refuses p =
     left v _ lent (record { why = refuses .why; place = refuses .place; told = sym (verdict-back v _) ∙ ap verdictOf (sym (p .0)) ∙ refuses .told }) (p .1)

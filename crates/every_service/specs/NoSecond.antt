@@ -17,11 +17,9 @@ use Rattle.month_demands.specs.Demands as Month
 use Rattle.periodise_service.specs.Promised as Periodisation
 use Rattle.reconcile.specs.Promised as Reconcile
 use Rattle.record.specs.Promised as Read
-use Rattle.record.specs.Record.{recordOf}
 use Rattle.record.specs.declared.Record.{Record}
-use Rattle.record_service.specs.Plain.{plainVerdict, plainRecord}
+use Rattle.record_service.specs.Plain as Plain
 use Rattle.record_write.specs.Writing as Write
-use Rattle.record_write.specs.declared.Written.{Written}
 use Rattle.residual.specs.Promised as OneHour
 use Rattle.residual_service.specs.Promised as Residual
 use Rattle.settle_c.specs.Promised as C
@@ -72,12 +70,10 @@ pub record Records : Type 0 where
   pub body-length : (kind : ℕ) → OneFits (Read.BodyLengthPromised kind)
   pub fault : (r : Record) (gln : List ℕ) (hours parties place : ℕ) → OneFits (Read.FaultPromised r gln hours parties place)
   pub read-alone : (part : List ℕ) → OneFits (Read.ReadAlonePromised part)
-  pub write : (r : Record) (gln lent : List ℕ) → OneFitsWith (Write.WritePromised r gln lent)
+  pub write : (r : Record) (gln lent : List ℕ) → OneFitsWith (Write.Promised r gln lent)
   pub write-plain :
       (kind : ℕ) (numbers : List ℤ) (gln lent : List ℕ)
-      → OneFitsWith
-      (λ (w : Written) (held : List ℕ).
-      Write.Promised (recordOf gln (plainRecord kind numbers)) lent (plainVerdict kind numbers gln (length lent)) (Write.wrote w) held)
+      → OneFitsWith (Plain.Promised kind numbers gln lent)
 
 -- A WHOLE FILE: its reading, its settlement, the hours of a run, its two texts
 pub record WholeFiles : Type 0 where

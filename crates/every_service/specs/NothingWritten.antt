@@ -5,7 +5,6 @@ use mathlib.Core.List.{List}
 use mathlib.Core.Path.{_≡_}
 use Prim.Native.Nat.{ℕ, _<_}
 use lib.IntN.{ℤ}
-use lib.ListN.{length}
 use Rattle.answer.specs.Said.{said}
 use Rattle.curve_numbers.specs.Promised as Curve
 use Rattle.distribute_service.specs.Promised as Distribution
@@ -14,9 +13,8 @@ use Rattle.month_demands.specs.Demands as Month
 use Rattle.month_sums.specs.Told as Month′
 use Rattle.periodise_service.specs.Promised as Periodisation
 use Rattle.reconcile_service.specs.Told as Hour
-use Rattle.record.specs.Record.{recordOf}
 use Rattle.record.specs.declared.Record.{Record}
-use Rattle.record_service.specs.Plain.{plainVerdict, plainRecord}
+use Rattle.record_service.specs.Plain as Plain
 use Rattle.record_write.specs.Writing as Write
 use Rattle.record_write.specs.declared.Written.{Written}
 use Rattle.report_text.specs.Reporting as Report
@@ -73,12 +71,10 @@ pub record NothingWritten : Type 0 where
   pub reconciliation-for-C :
       (residual : ℕ) (distributed : List ℤ) (periodised : List ℕ) (carrier : ℕ) (price : ℤ) (lent : HourForC)
       → Unwritten NotZero lent (HourForCPromised residual distributed periodised carrier price lent)
-  pub write : (r : Record) (gln lent : List ℕ) → Unwritten (Refuses wroteVerdict) lent (Write.WritePromised r gln lent)
+  pub write : (r : Record) (gln lent : List ℕ) → Unwritten (Refuses wroteVerdict) lent (Write.Promised r gln lent)
   pub write-plain :
       (kind : ℕ) (numbers : List ℤ) (gln lent : List ℕ)
-      → Unwritten (Refuses wroteVerdict) lent
-      (λ (w : Written) (held : List ℕ).
-      Write.Promised (recordOf gln (plainRecord kind numbers)) lent (plainVerdict kind numbers gln (length lent)) (Write.wrote w) held)
+      → Unwritten (Refuses wroteVerdict) lent (Plain.Promised kind numbers gln lent)
   pub month-settle : (file : List ℕ) (lent : Month.Outputs) → Unwritten (Refuses Month′.verdict) lent (λ r. Month.Kept file r lent)
   pub month-run-hours :
       (file : List ℕ) (start hours : ℕ) (lent : RunOutputs) → Unwritten (Refuses said) lent (RunPromised file start hours lent)

@@ -10,12 +10,9 @@ use lib.IntN.{ℤ, natAbs}
 use lib.ListN.{length}
 use Rattle.record.specs.Record.{recordOf}
 use Rattle.record_service.specs.Held.{fieldCount, signedPlace, signsFrom, listRight, heldRecord}
-use Rattle.record_service.specs.Plain.{Promised}
 use Rattle.record_service.proofs.Alike.{judged-alike, accepted-same, right-as-the-rules}
-use Rattle.record_write.specs.Writing.{wrote, roomFor}
-use Rattle.record_write.specs.declared.Written.{Written}
+use Rattle.record_write.specs.Writing.{roomFor, WrittenUnder}
 use Rattle.record_write.proofs.WriteOne.{verdict-is}
-use Rattle.record_write.proofs.WriteOne as W
 use Rattle.rules.specs.PlainRecord.{nth, plainRecord, standIn, countHeld, plainVerdict}
 use Rattle.rules.specs.Record.{Record, endKind, bodyLength, known, fieldsOf, alone, checks, writeVerdict}
 use Rattle.rules.specs.Refusals.{unknownKind, outOfRange, Verdict, accepted, refused, Answer, refusal, unless, andThen, first, answer, afterwards}
@@ -81,17 +78,21 @@ module _ (kind : ℕ) (numbers : List ℤ) (gln out : List ℕ) where
   abbrev record-is : Record
   record-is = plainRecord kind numbers gln
 
-  pub unknown : known kind ≡ false → {w : Written} → wrote w ≡ refusal unknownKind 0 → Promised kind numbers gln out w out
+  -- what is promised, of an answer in the words of the rules
+  abbrev Written-so : Answer ℕ → List ℕ → Type 0
+  Written-so a after = WrittenUnder record-is out (plainVerdict kind numbers gln (length out)) a after
+
+  pub unknown : known kind ≡ false → {a : Answer ℕ} → a ≡ refusal unknownKind 0 → Written-so a out
   unfolding plainVerdict first andThen unless answer afterwards
-  unknown e is = record { answer = rw e is; contents = rw e refl }
+  unknown e is = (rw e is, rw e refl)
 
   module _ (has : known kind ≡ true) {b : Bool} (list : b ≡ listRight kind numbers) where
     as-ruled : standIn (fieldsOf record-is) numbers && countHeld kind numbers ≡ b
     as-ruled = sym (list ∙ right-as-the-rules numbers gln kind has)
 
-    pub wrong-list : not b ≡ true → {w : Written} → wrote w ≡ refusal outOfRange 0 → Promised kind numbers gln out w out
+    pub wrong-list : not b ≡ true → {a : Answer ℕ} → a ≡ refusal outOfRange 0 → Written-so a out
     unfolding plainVerdict first andThen unless answer afterwards
-    wrong-list e is = record { answer = rw (has, as-ruled, not-true b e) is; contents = rw (has, as-ruled, not-true b e) refl }
+    wrong-list e is = (rw (has, as-ruled, not-true b e) is, rw (has, as-ruled, not-true b e) refl)
 
     module _ (e : not b ≡ false) where
       passed : plainVerdict kind numbers gln (length out) ≡ writeVerdict record-is (length out)
@@ -103,17 +104,17 @@ module _ (kind : ℕ) (numbers : List ℤ) (gln out : List ℕ) where
 
       -- the writer's promise of the record as it is held is that of the record itself
       of-the-record : (v : Verdict) → first (checks alone record-is) ≡ v → {a : Answer ℕ} {after : List ℕ}
-          → W.Promised record-held out (writeVerdict record-held (length out)) a after
-          → W.Promised record-is out (writeVerdict record-is (length out)) a after
+          → WrittenUnder record-held out (writeVerdict record-held (length out)) a after
+          → WrittenUnder record-is out (writeVerdict record-is (length out)) a after
       unfolding andThen answer afterwards
       of-the-record accepted is {a} {after} h =
-          subst (λ (r : Record). W.Promised r out (writeVerdict r (length out)) a after) (accepted-same numbers gln kind has held-count is) h
+          subst (λ (r : Record). WrittenUnder r out (writeVerdict r (length out)) a after) (accepted-same numbers gln kind has held-count is) h
       of-the-record (refused r place) is h =
           let held-refused = verdict-is record-held out ∙ ap (λ (v : Verdict). andThen v (roomFor record-held out)) (judged-alike numbers gln kind has held-count ∙ is) in
           let is-refused = verdict-is record-is out ∙ ap (λ (v : Verdict). andThen v (roomFor record-is out)) is in
           rw is-refused (rw held-refused at h)
 
-      pub written-plain : {w : Written} {after : List ℕ} → W.Promised record-held out (writeVerdict record-held (length out)) (wrote w) after → Promised kind numbers gln out w after
+      pub written-plain : {a : Answer ℕ} {after : List ℕ} → WrittenUnder record-held out (writeVerdict record-held (length out)) a after → Written-so a after
       written-plain h =
           let same = of-the-record (first (checks alone record-is)) refl h in
-          record { answer = rw passed (same .0); contents = rw passed (same .1) }
+          (rw passed (same .0), rw passed (same .1))

@@ -16,8 +16,7 @@ use Rattle.answer.specs.declared.Answer as A
 use Rattle.answer.specs.declared.Answer.the-variants.{Done, Refused}
 use Rattle.answer.specs.declared.Refusal as A′
 use Rattle.record.specs.Record.{recordOf, faultOf}
-use Rattle.record_write.specs.Writing.{kindOf, Writable, roomFor}
-pub use Rattle.record_write.specs.Writing.{Promised}
+use Rattle.record_write.specs.Writing.{kindOf, Writable, roomFor, WrittenUnder}
 use Rattle.record.specs.declared.Record as C
 use Rattle.record.specs.declared.Record.the-variants.{Heading, Party, FixedHour, Reading, Price, RefixedHour, End}
 use Rattle.rules.specs.Limits.{mostHours, mostParties, greatestPrice, glnDigits}
@@ -66,13 +65,13 @@ set-at-start bytes out h =
 
 -- 16, or the bytes
 module _ (gln : List ℕ) (r : C.Record) (out : List ℕ) (e : first (checks alone (recordOf gln r)) ≡ accepted) where
-  pub too-short : length out < 1 + bodyLength (kindOf r) → Promised (recordOf gln r) out (roomFor (recordOf gln r) out) (refusal wrongLength 0) out
+  pub too-short : length out < 1 + bodyLength (kindOf r) → WrittenUnder (recordOf gln r) out (roomFor (recordOf gln r) out) (refusal wrongLength 0) out
   unfolding roomFor unless answer afterwards
   too-short h =
       rw (lt-leb (length (recordBytes (recordOf gln r))) (length out) (omega (arith, size-is gln r e))) (refl, refl)
 
   pub has-room : {n : ℕ} → n ≡ 1 + bodyLength (kindOf r) → n ≤ length out → {after : List ℕ} → after ≡ sets out 0 (recordBytes (recordOf gln r))
-      → Promised (recordOf gln r) out (roomFor (recordOf gln r) out) (given n) after
+      → WrittenUnder (recordOf gln r) out (roomFor (recordOf gln r) out) (given n) after
   unfolding roomFor unless answer afterwards written
   has-room i h s =
       let room : length (recordBytes (recordOf gln r)) ≤ length out = omega (arith, size-is gln r e) in
@@ -102,12 +101,12 @@ module _ (gln : List ℕ) (r : C.Record) (out : List ℕ) (a : A.Answer) (fault 
   verdict-by : writeVerdict (recordOf gln r) (length out) ≡ andThen (said a) (roomFor (recordOf gln r) out)
   verdict-by = verdict-is (recordOf gln r) out ∙ ap (λ (v : Verdict). andThen v (roomFor (recordOf gln r) out)) (sym checked)
 
-  pub verdict-of-room : a ≡ Done → {w : Answer ℕ} {after : List ℕ} → Promised (recordOf gln r) out (roomFor (recordOf gln r) out) w after
-      → Promised (recordOf gln r) out (writeVerdict (recordOf gln r) (length out)) w after
+  pub verdict-of-room : a ≡ Done → {w : Answer ℕ} {after : List ℕ} → WrittenUnder (recordOf gln r) out (roomFor (recordOf gln r) out) w after
+      → WrittenUnder (recordOf gln r) out (writeVerdict (recordOf gln r) (length out)) w after
   unfolding andThen
   verdict-of-room e h = rw (verdict-by, e) h
 
   pub verdict-of-fault : {x : A′.Refusal} {place : ℕ} → a ≡ Refused x place
-      → Promised (recordOf gln r) out (writeVerdict (recordOf gln r) (length out)) (refusal (named x) place) out
+      → WrittenUnder (recordOf gln r) out (writeVerdict (recordOf gln r) (length out)) (refusal (named x) place) out
   unfolding andThen answer afterwards
   verdict-of-fault e = rw (verdict-by, e) (refl, refl)

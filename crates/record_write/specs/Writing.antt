@@ -37,9 +37,9 @@ wrote (Bytes n) = given n
 wrote (Refused r place) = refusal (named r) place
 
 -- what writing a record into a lent part promises under a verdict: "the number of bytes", and what the part then holds
-abbrev pub Promised : RRecord.Record → List ℕ → Verdict → Answer ℕ → List ℕ → Type 0
-Promised r lent v a held = (a ≡ answer v (length (RRecord.recordBytes r))) × (held ≡ afterwards v (RRecord.written r lent) lent)
+abbrev pub WrittenUnder : RRecord.Record → List ℕ → Verdict → Answer ℕ → List ℕ → Type 0
+WrittenUnder r lent v a held = (a ≡ answer v (length (RRecord.recordBytes r))) × (held ≡ afterwards v (RRecord.written r lent) lent)
 
 -- THE PROMISE of `write`: its `ensures` cites it, and so does what is proved of every service (`every_service`)
-abbrev pub WritePromised : Record → List ℕ → List ℕ → Written → List ℕ → Type 0
-WritePromised r gln lent w held = Promised (recordOf gln r) lent (RRecord.writeVerdict (recordOf gln r) (length lent)) (wrote w) held
+abbrev pub Promised : Record → List ℕ → List ℕ → Written → List ℕ → Type 0
+Promised r gln lent w held = WrittenUnder (recordOf gln r) lent (RRecord.writeVerdict (recordOf gln r) (length lent)) (wrote w) held

@@ -20,7 +20,7 @@ ghost use lib.ListN.{length};
 ghost use lib.Seq.{sets};
 ghost use lib.Signed.{mag};
 ghost use Rattle.record.specs.Record.{recordOf, headingOf, flowsOf, readingOf};
-ghost use Rattle.record_write.specs.Writing.{wrote, kindOf, hourBytes, Writable, roomFor, Promised, WritePromised};
+ghost use Rattle.record_write.specs.Writing.{wrote, kindOf, hourBytes, Writable, roomFor, WrittenUnder, Promised};
 ghost use Rattle.rules.specs.Limits.{glnDigits};
 ghost use Rattle.rules.specs.Record.{heading, reading, price, end, recordBytes, alone, checks};
 ghost use Rattle.rules.specs.Refusals.{accepted, first};
@@ -153,7 +153,7 @@ fn encode(r: Record, gln: &[u8], out: &mut [u8])
 // 16, "record writer: too short", of a record that has no fault; else "kind and body at its start, nothing further on touched, and the number of bytes".
 fn put_record(r: Record, gln: &[u8], out: &mut [u8]) -> Written
     requires { ⌜ first (checks alone (recordOf (now gln) r)) ≡ accepted ⌝ }
-    ensures { λ w. ⌜ Promised (recordOf (now (gln .entry)) r) (now (out .entry)) (roomFor (recordOf (now (gln .entry)) r) (now (out .entry))) (wrote w) (now (out .exit)) ⌝ }
+    ensures { λ w. ⌜ WrittenUnder (recordOf (now (gln .entry)) r) (now (out .entry)) (roomFor (recordOf (now (gln .entry)) r) (now (out .entry))) (wrote w) (now (out .exit)) ⌝ }
 {
     let n = 1 + record::body_length(kind_of(r));
     if out.len() < n {
@@ -165,7 +165,7 @@ fn put_record(r: Record, gln: &[u8], out: &mut [u8]) -> Written
 
 // "The record writer takes one record's fields and a lent part": 4, 5, 11, 12, then 16.
 pub fn write(r: Record, gln: &[u8], out: &mut [u8]) -> Written
-    ensures { λ w. ⌜ WritePromised r (now (gln .entry)) (now (out .entry)) w (now (out .exit)) ⌝ }
+    ensures { λ w. ⌜ Promised r (now (gln .entry)) (now (out .entry)) w (now (out .exit)) ⌝ }
 {
     let a = record::fault(r, gln, MOST_HOURS, MOST_PARTIES, 0);
     match a {
