@@ -2,4 +2,3 @@ pub mod Lengths
 pub mod Hours
 pub mod Passes
 pub mod Demand
-pub mod Unique

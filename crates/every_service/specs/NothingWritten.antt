@@ -42,7 +42,7 @@ verdictOf (refusal why place) = refused why place
 abbrev pub wroteVerdict : Written → Verdict
 wroteVerdict w = verdictOf (Write.wrote w)
 
--- for C: "0 for accepted", so any other number is a refusal
+-- for C, whose 0 is an acceptance: any other number is a refusal
 abbrev pub NotZero : ℕ → Type 0
 NotZero n = 0 < n
 

@@ -1,4 +1,3 @@
 pub mod Sizes
 pub mod Invoice
 pub mod Settled
-pub mod Unique

@@ -1,5 +1,4 @@
--- No second result fits: the promise of `record_write` fixes the answer, by what it says in the words of the rules, and what the lent part holds.
-use mathlib.Core.List.{List}
+-- No second answer fits: the promise of `record_write` fixes it, by what it says in the words of the rules.
 use mathlib.Core.Path.{_≡_, sym, _∙_}
 use Prim.Native.Nat.{ℕ}
 use Rattle.answer.proofs.Said.{named-once}
@@ -20,6 +19,3 @@ wrote-once (Refused r p) (Refused s q) e =
 
 pub write-once : {told : Answer ℕ} (a b : Written) → wrote a ≡ told → wrote b ≡ told → a ≡ b
 write-once a b p q = wrote-once a b (p ∙ sym q)
-
-pub contents-once : {held : List ℕ} (a b : List ℕ) → a ≡ held → b ≡ held → a ≡ b
-contents-once a b p q = p ∙ sym q

@@ -1,4 +1,4 @@
 pub mod Told
 pub mod Hour
-pub mod Unique
+pub mod ReadBack
 pub mod Exact

@@ -1,15 +1,11 @@
--- No second result fits: the number that an export answers and what every lent list then holds are each promised to be one value, and the number tells
--- refusal and place apart.
-use mathlib.Core.Path.{_≡_, sym, _∙_}
+-- The number that an export answers tells refusal and place apart, and a refusal from an acceptance: what C reads back.
+use mathlib.Core.Path.{_≡_}
 use Prim.Native.Nat.{ℕ, _+_, _*_, _≤_, _<_, _%_, _/_}
 use native.Mathlib.Omega.{arith}
 use Rattle.rules.specs.Refusals.{Refusal, refused, numberOf, fileFault, unknownKind, outOfOrder, outOfRange, glnFault, wOutOfRange}
 use Rattle.rules.specs.Refusals.{missingHour, residualNegative, residualTooLarge, curveTooLarge, spanFault, energyTooLarge, nothingToFollow, periodisedTooLarge, wrongCount, wrongLength}
 use Rattle.settle_c.specs.Coded.{greatestPlace, numberAt, coded}
 use Rattle.settle_c.proofs.Told.{within-place}
-
-pub one-value : {A : Type 0} {value r s : A} → r ≡ value → s ≡ value → r ≡ s
-one-value p q = p ∙ sym q
 
 number-small : (r : Refusal) → (0 < numberOf r) × (numberOf r < 256)
 number-small fileFault = (omega arith, omega arith)
@@ -29,7 +25,7 @@ number-small periodisedTooLarge = (omega arith, omega arith)
 number-small wrongCount = (omega arith, omega arith)
 number-small wrongLength = (omega arith, omega arith)
 
--- what C reads back: the number is the answer's remainder by 256, the place its quotient, and a refusal is never 0
+-- the number is the answer's remainder by 256, the place its quotient, and a refusal is never 0
 pub read-number : (r : Refusal) (place : ℕ) → place ≤ greatestPlace → coded (refused r place) % 256 ≡ numberOf r
 unfolding coded
 read-number r place h =
