@@ -52,8 +52,9 @@ returns-2 : tie.Need-returns-2
 returns-2 c =
     let line = c .before .before .before in
     let ending-told = line .before .before in
+    let start = ending-told .before .before .before .before .before .before in
     let prints = alone-printed (c .alone .ensures) (line .refusal-line .ensures) in
-    (prints .0, too-long-text T.hoursReport _ too-long-line (ending-told .enum-told2 .given .1) (prints .1))
+    (prints .0, too-long-text T.hoursReport _ too-long-line (start .pre .0) (ending-told .enum-told2 .given .1) (prints .1))
 
 returns-3 : tie.Need-returns-3
 returns-3 c =
