@@ -18,6 +18,10 @@ use Rattle.rules.specs.Month.{fileVerdict, monthOf}
 use Rattle.rules.specs.MonthFile.{MonthFile}
 use Rattle.rules.specs.Refusals.{Verdict, accepted, refused, wrongLength, unless, afterwards}
 use Rattle.rules.proofs.Refusals.{then-accepted, both-accept, given-tells, refusal-tells}
+use Rattle.standard_input.specs.Reading.{TextOf}
+use Rattle.standard_input.specs.declared.Ending.{Ending}
+use Rattle.standard_input.specs.declared.Ending.the-variants.{Whole}
+use Rattle.standard_input.proofs.Endings.{whole-text}
 use Rattle.text.specs.Text.{refusalText, atStart}
 use Rattle.text.proofs.Stands.{Stands, stands-at-start}
 
@@ -83,3 +87,11 @@ module _ (file first rest parties : List ℕ) {first′ rest′ parties′ : Lis
     refusal-printed {r} {place} e =
         let told-so : v ≡ refused (named r) place = refusal-tells v (lengthsOf m) (sym (ap told e) ∙ p .answer) in
         ap (λ (x : Reported). refusalText (verdict x)) e ∙ sym (refusal-text file (sym only-the-file ∙ told-so))
+
+-- AN INPUT THAT WAS READ WHOLE: the report of its bytes is its report
+pub whole-printed :
+    (bytes : List ℕ) {ending : Ending} {p : Parts} {first rest parties : List ℕ}
+    → ending ≡ Whole
+    → Prints (hoursReport bytes) p first rest parties
+    → Within p first rest parties × TextOf hoursReport ending bytes (printed p first rest parties)
+whole-printed bytes e prints = (prints .0, whole-text hoursReport bytes e (prints .1))

@@ -13,7 +13,7 @@ ghost use mathlib.Core.Path.{_≡_};
 ghost use Rattle.hours.specs.Printed.{Within, printed};
 ghost use Rattle.report_text.specs.Lines.{Roomy, firstRoom, restRoom, partiesRoom};
 ghost use Rattle.rules.specs.HoursReport.{hoursReport};
-ghost use Rattle.standard_input.specs.Reading.{TextOf};
+ghost use Rattle.standard_input.specs.Reading.{FullyRead, TextOf};
 
 // The most bytes of each part.
 const FIRST_ROOM: usize = report_text::FIRST_ROOM;
@@ -86,6 +86,7 @@ fn input_text(
     rest: &mut [u8],
     parties: &mut [u8],
 ) -> Parts
+    requires { ⌜ FullyRead ending (now file) ⌝ }
     requires { ⌜ Roomy (length (now first)) (length (now rest)) (length (now parties)) ⌝ }
     ensures within { λ p. ⌜ Within p (now (first .exit)) (now (rest .exit)) (now (parties .exit)) ⌝ }
     ensures text { λ p. ⌜ TextOf hoursReport ending (now (file .entry)) (printed p (now (first .exit)) (now (rest .exit)) (now (parties .exit))) ⌝ }
@@ -120,7 +121,9 @@ fn print_parts(first: &[u8], rest: &[u8], parties: &[u8]) {
 }
 
 // An input that could be read: its report, or its refusal.
-fn print_input(ending: Ending, file: &[u8]) {
+fn print_input(ending: Ending, file: &[u8])
+    requires { ⌜ FullyRead ending (now file) ⌝ }
+{
     let mut first = first_room();
     let mut rest = rest_room();
     let mut parties = parties_room();

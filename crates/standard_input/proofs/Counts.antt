@@ -14,7 +14,8 @@ use mir.Facts.{toZ-ofZ, fits-natAbs}
 use mir.Syntax.{w64}
 use mir.Val.{Fits, SFits, toZ, ofZ}
 use Rattle.libc.specs.Io.{Moved}
-use Rattle.standard_input.specs.Reading.{PieceWithin, Full}
+use Rattle.rules.specs.Limits.{longestFile}
+use Rattle.standard_input.specs.Reading.{PieceWithin, Full, FullyRead}
 use Rattle.standard_input.specs.declared.Ending.{Ending}
 use Rattle.standard_input.specs.declared.Ending.the-variants.{Whole, TooLong, Failed}
 use Rattle.standard_input.specs.declared.Piece.{Piece}
@@ -72,3 +73,13 @@ pub full : (ending : Ending) {lent buffer : List ℕ} {filled : ℕ} → Filled 
 full Whole so-far at-end = (so-far .bound, tt)
 full TooLong so-far at-end = (so-far .bound, omega (arith, so-far .bound, at-end))
 full Failed so-far at-end = (so-far .bound, tt)
+
+-- and so is the part of it that is handed on, of a buffer for the longest file
+pub fully-read :
+    (ending : Ending) (buffer : List ℕ) {filled : ℕ}
+    → (filled ≤ length buffer) × Full ending filled (length buffer)
+    → length buffer ≡ longestFile
+    → FullyRead ending (midOf 0 (filled - 0) buffer)
+fully-read ending buffer {filled} promised size =
+    let whole : filled - 0 ≡ filled = omega arith in
+    rw (mid-len 0 filled buffer (promised .0), whole, sym size) (promised .1)

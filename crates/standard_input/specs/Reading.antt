@@ -37,12 +37,16 @@ abbrev pub endedText : Option Verdict → List ℕ
 endedText none = []
 endedText (some v) = refusalText v
 
--- the inputs that a reading can have had which ended so, with these bytes read: the bytes themselves; every input that is too long ("At most 65,536 bytes");
--- and none, where it could not be read
+-- the inputs that a reading can have had which ended so, with these bytes read: the bytes themselves; every input that is longer than they are; and none,
+-- where it could not be read
 abbrev pub InputOf : Ending → List ℕ → List ℕ → Type 0
 InputOf Whole bytes input = input ≡ bytes
-InputOf TooLong bytes input = longestFile < length input
+InputOf TooLong bytes input = length bytes < length input
 InputOf Failed bytes input = ⊥
+
+-- "At most 65,536 bytes": an input is told as too long only where so many of it were read
+abbrev pub FullyRead : Ending → List ℕ → Type 0
+FullyRead ending bytes = Full ending (length bytes) longestFile
 
 -- THE TEXT OF THE INPUT: of every input that the reading can have had, what is printed is its report
 abbrev pub TextOf : (List ℕ → List ℕ) → Ending → List ℕ → List ℕ → Type 0

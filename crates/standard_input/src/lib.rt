@@ -1,6 +1,7 @@
 // Standard input, as the programs use it: a month file is read piece by piece, however many reads it takes.
 //
-// What is proved: each function is safe and ends, given that each read returns; and what was read lies within the buffer. What no contract can say, since that of
+// What is proved: each function is safe and ends, given that each read returns; what was read lies within the buffer, and fills it where the input is told as too
+// long; and the line that is printed of such an input is 1 at 0. What no contract can say, since that of
 // `libc::read` speaks of the count of one call alone: that the bytes of the buffer are those of standard input, all of them. tests/streams tries that on the running
 // programs. Each program writes by itself: of `io::write_all` nothing is promised, so nothing could be promised of a public function that calls it.
 use answer::Refusal;
@@ -25,7 +26,7 @@ pub enum Ending {
     Failed,
 }
 
-// So many bytes of the buffer are filled, and how that ended. A count of its own, so that a program that hands on this part of the buffer needs no proof.
+// So many bytes of the buffer are filled, and how that ended. A count of its own: it is within the buffer however the reading ended.
 pub struct Input {
     pub filled: usize,
     pub ending: Ending,

@@ -11,7 +11,7 @@ ghost use lib.ListN.{length, take};
 ghost use mathlib.Core.Path.{_≡_};
 ghost use Prim.Native.Nat.{_≤_};
 ghost use Rattle.rules.specs.Statement.{statement};
-ghost use Rattle.standard_input.specs.Reading.{TextOf};
+ghost use Rattle.standard_input.specs.Reading.{FullyRead, TextOf};
 ghost use Rattle.statement_text.specs.Lines.{statementRoom};
 
 // The most bytes of a statement.
@@ -40,6 +40,7 @@ fn file_text(file: &[u8], out: &mut [u8]) -> usize
 // The text of an input at the start of `out`, by how its reading ended: THE STATEMENT OF THE INPUT. Of one that is too long it is the same line, whatever its bytes;
 // one that could not be read has none.
 fn input_text(ending: Ending, file: &[u8], out: &mut [u8]) -> usize
+    requires { ⌜ FullyRead ending (now file) ⌝ }
     requires { ⌜ statementRoom ≤ length (now out) ⌝ }
     ensures within { λ n. ⌜ n ≤ length (now (out .exit)) ⌝ }
     ensures text { λ n. ⌜ TextOf statement ending (now (file .entry)) (take n (now (out .exit))) ⌝ }
@@ -66,7 +67,9 @@ fn print(text: &[u8]) {
 }
 
 // An input that could be read: its statement, or its refusal.
-fn print_input(ending: Ending, file: &[u8]) {
+fn print_input(ending: Ending, file: &[u8])
+    requires { ⌜ FullyRead ending (now file) ⌝ }
+{
     let mut out = room();
     let n = input_text(ending, file, &mut out);
     print(&out[0..n]);

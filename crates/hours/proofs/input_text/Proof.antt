@@ -1,10 +1,10 @@
 -- `hours::input_text` meets its contract: what is printed is the report of the input, however its reading ended. Assumes nothing.
 use mathlib.Core.Path.{refl}
 use Prim.Native.Nat.{zero-le}
-use Rattle.hours.proofs.Texts.{alone-printed}
+use Rattle.hours.proofs.Texts.{alone-printed, whole-printed}
 use Rattle.report_text.proofs.Reports.{too-long-line}
 use Rattle.rules.specs.HoursReport as T
-use Rattle.standard_input.proofs.Endings.{whole-text, too-long-text, failed-text}
+use Rattle.standard_input.proofs.Endings.{too-long-text, failed-text}
 use borrow.Author.Needs.{needs}
 use Rattle.hours.proofs.input_text.Statement.{statement}
 use Rattle.hours.proofs.input_text.Tie as tie
@@ -43,7 +43,7 @@ returns : tie.Need-returns
 returns c =
     let after-file-text = c .before .before .before .before .before .before in
     let ending-told = after-file-text .before .before .before .before in
-    (after-file-text .file-text .ensures .0, whole-text T.hoursReport _ (ending-told .enum-told .given .1) (after-file-text .file-text .ensures .1))
+    whole-printed _ (ending-told .enum-told .given .1) (after-file-text .file-text .ensures)
 
 same-length-4 : tie.Need-same-length-4
 same-length-4 c = search needs
@@ -52,8 +52,9 @@ returns-2 : tie.Need-returns-2
 returns-2 c =
     let line = c .before .before .before in
     let ending-told = line .before .before in
+    let start = ending-told .before .before .before .before .before .before in
     let prints = alone-printed (c .alone .ensures) (line .refusal-line .ensures) in
-    (prints .0, too-long-text T.hoursReport _ too-long-line (ending-told .enum-told2 .given .1) (prints .1))
+    (prints .0, too-long-text T.hoursReport _ too-long-line (start .pre .0) (ending-told .enum-told2 .given .1) (prints .1))
 
 returns-3 : tie.Need-returns-3
 returns-3 c =

@@ -38,7 +38,8 @@ returns-2 : tie.Need-returns-2
 returns-2 c =
     let line = c .before .before in
     let ending-told = line .before .before in
-    (line .refusal-line .ensures .0, too-long-text T.statement _ too-long-line (ending-told .enum-told2 .given .1) (line .refusal-line .ensures .1))
+    let start = ending-told .before .before .before .before in
+    (line .refusal-line .ensures .0, too-long-text T.statement _ too-long-line (start .pre .0) (ending-told .enum-told2 .given .1) (line .refusal-line .ensures .1))
 
 returns-3 : tie.Need-returns-3
 returns-3 c = (zero-le, failed-text T.statement _ (c .enum-told3 .given .1))
