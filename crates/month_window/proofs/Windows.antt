@@ -26,20 +26,15 @@ use Rattle.rules.specs.Limits.{greatestEnergy, longestFile}
 use Rattle.rules.specs.Month.{curve, monthOf, readingAt, weightOf, readingFigure, figureFor, periodised}
 use Rattle.rules.specs.MonthFile.{MonthFile, H, P, readMonth}
 use Rattle.rules.specs.Record.{Reading}
-use Rattle.rules.specs.Refusals.{fileFault, Answer, given, refusal}
-use Rattle.rules.specs.Words.{sum, at, figures, within}
+use Rattle.rules.specs.Refusals.{given}
+use Rattle.rules.specs.Words.{sum, at, figures}
 use Rattle.rules.proofs.Loops.{figures-length, figures-at}
 use Rattle.rules.proofs.Sums.{sum-cong}
-use Rattle.rules.proofs.Whole.{Whole, ReadingRight, every-at, heading-facts, within-is, given-not-refusal}
+use Rattle.rules.proofs.Whole.{Whole, ReadingRight, every-at, heading-facts, within-is, of-the-right-length}
 
 -- a file that is read is not too long, and each reading has ten bytes of it
-length-passed : (passed : Bool) (a : Answer MonthFile) {m : MonthFile} → cond passed a (refusal fileFault 0) ≡ given m → passed ≡ true
-length-passed true a e = refl
-length-passed false a e = absurd (given-not-refusal e)
-
 at-most-longest : (file : List ℕ) {m : MonthFile} → readMonth file ≡ given m → length file ≤ longestFile
-unfolding readMonth
-at-most-longest file e = within-is 1 longestFile (length file) (length-passed (within 1 longestFile (length file)) _ e) .1
+at-most-longest file e = within-is 1 longestFile (length file) (of-the-right-length file e .0) .1
 
 pub few-readings : (file : List ℕ) (s : Sections) → Accepted file s → s .readings ≤ longestFile
 few-readings file s ok =
