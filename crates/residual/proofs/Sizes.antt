@@ -71,10 +71,19 @@ module _ {net : ℤ} {production hourly flex : ℕ} (small : WithinLimits net pr
   pub fits2 : SFits w64 (step2 net production hourly)
   fits2 = fitting is2 (omega (arith, size2))
 
-  pub fits3 : SFits w64 (step3 net production hourly flex)
-  fits3 = fitting is3 size3
-
   -- the status is no part of the residual
   pub residual-is : toZ w64 (ofZ w64 (step3 net production hourly flex)) ≡ residual (flowsHere 0 net production hourly flex)
   unfolding residual
   residual-is = kept is3 size3
+
+-- whichever flow is taken off last
+pub fits3 :
+    {net : ℤ} {production hourly flex : ℕ}
+    → WithinLimits net production hourly flex
+    → {last : ℕ}
+    → last ≤ greatestFlow
+    → SFits w64 (step3 net production hourly last)
+fits3 {net} {production} {hourly} small {last} b =
+    let with-it : WithinLimits net production hourly last =
+    record { net-within = small .net-within; production-within = small .production-within; hourly-within = small .hourly-within; flex-within = b } in
+    fitting (is3 with-it) (size3 with-it)

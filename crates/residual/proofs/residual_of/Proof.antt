@@ -20,7 +20,7 @@ cast-result-3 : tie.Need-cast-result-3
 cast-result-3 c = search needs
 
 sub-result-2 : tie.Need-sub-result-2
-sub-result-2 c = fits3 (c .pre)
+sub-result-2 c = search (needs, fits3 (c .pre))
 
 returns : tie.Need-returns
 returns c = residual-is (c .pre)
