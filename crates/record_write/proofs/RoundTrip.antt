@@ -7,8 +7,9 @@ use Prim.Native.Nat.{ℕ, _+_, _≤_}
 use borrow.Author.Tests.{le-leb}
 use lib.ListN.{length, take, drop}
 use lib.Seq.{length-take-le}
+use Rattle.record.specs.Promised.{ReadAlonePromised}
 use Rattle.record.specs.Record.{recordOf, glnBytes, told}
-use Rattle.record_write.specs.Writing.{roomFor, wrote}
+use Rattle.record_write.specs.Writing.{roomFor, wrote, WritePromised}
 use Rattle.record.specs.declared.Read as Code
 use Rattle.record.specs.declared.Read.the-variants.{Given}
 use Rattle.record.specs.declared.Record as Code′
@@ -21,21 +22,20 @@ use Rattle.rules.proofs.RoundTrip as R
 use Rattle.record_write.proofs.WriteOne.{verdict-is}
 
 module _ (gln : List ℕ) (r : Code′.Record) (out after : List ℕ) (w : Code″.Written)
-    (answered : wrote w ≡ answer (writeVerdict (recordOf gln r) (length out)) (length (recordBytes (recordOf gln r))))
-    (contents : after ≡ afterwards (writeVerdict (recordOf gln r) (length out)) (written (recordOf gln r) out) out) where
+    (wrote-it : WritePromised r gln out w after) where
   -- READ OF WRITTEN IS THE SAME RECORD
   pub read-what-was-written : (n : ℕ) → w ≡ Bytes n → R.CountHeld (recordOf gln r)
-      → (found : Code.Read) → told (glnBytes after) found ≡ readAlone after → told (glnBytes after) found ≡ given (recordOf gln r)
+      → (found : Code.Read) → ReadAlonePromised after found → told (glnBytes after) found ≡ given (recordOf gln r)
   unfolding afterwards written
   read-what-was-written n e held found promise =
-      let verdict : writeVerdict (recordOf gln r) (length out) ≡ accepted = R.given-by _ _ n (sym answered ∙ ap wrote e) .0 in
+      let verdict : writeVerdict (recordOf gln r) (length out) ≡ accepted = R.given-by _ _ n (sym (wrote-it .0) ∙ ap wrote e) .0 in
       let checked : first (checks alone (recordOf gln r)) ≡ accepted = both-accept _ _ (sym (verdict-is (recordOf gln r) out) ∙ verdict) .0 in
       let bytes : after ≡ recordBytes (recordOf gln r) ++ drop (length (recordBytes (recordOf gln r))) out =
-      contents ∙ ap (λ (v : Verdict). afterwards v (written (recordOf gln r) out) out) verdict in
+      wrote-it .1 ∙ ap (λ (v : Verdict). afterwards v (written (recordOf gln r) out) out) verdict in
       promise ∙ ap readAlone bytes ∙ R.read-of-written (recordOf gln r) (drop (length (recordBytes (recordOf gln r))) out) held checked
 
   -- WRITTEN OF READ IS THE SAME BYTES: into a part with room for them
-  pub written-what-was-read : (s : List ℕ) → R.Bytes s → recordOf gln r ≡ recordOf (glnBytes s) r → told (glnBytes s) (Given r) ≡ readAlone s → 1 + bodyLength (kindAt s) ≤ length out
+  pub written-what-was-read : (s : List ℕ) → R.Bytes s → recordOf gln r ≡ recordOf (glnBytes s) r → ReadAlonePromised s (Given r) → 1 + bodyLength (kindAt s) ≤ length out
       → (wrote w ≡ given (1 + bodyLength (kindAt s))) × (after ≡ take (1 + bodyLength (kindAt s)) s ++ drop (1 + bodyLength (kindAt s)) out)
   unfolding roomFor unless andThen answer afterwards written
   written-what-was-read s small same promise room =
@@ -45,4 +45,4 @@ module _ (gln : List ℕ) (r : Code′.Record) (out after : List ℕ) (w : Code�
       let size : length (recordBytes (recordOf gln r)) ≡ 1 + bodyLength (kindAt s) = ap length bytes ∙ length-take-le (1 + bodyLength (kindAt s)) s (says .fits) in
       let verdict : writeVerdict (recordOf gln r) (length out) ≡ accepted =
       verdict-is (recordOf gln r) out ∙ rw (says .judged, size, le-leb (1 + bodyLength (kindAt s)) (length out) room) in
-      (answered ∙ rw (verdict, size), contents ∙ rw (verdict, size, bytes))
+      (wrote-it .0 ∙ rw (verdict, size), wrote-it .1 ∙ rw (verdict, size, bytes))
