@@ -1,8 +1,8 @@
--- What is printed of an input, by how its reading ended: of one that is too long its refusal line, which stands at the start of the buffer; and that this is its
--- report, one law for every program whose report of an input that is too long is that line.
+-- What is printed of an input, by how its reading ended: of one that is too long its refusal line. That this is its report is one law for every program whose report
+-- of an input that is too long is that line.
 use mathlib.Core.List.{List}
 use mathlib.Core.Path.{_≡_, sym, _∙_, ap, subst}
-use Prim.Native.Nat.{ℕ, _≤_, _<_}
+use Prim.Native.Nat.{ℕ, _<_}
 use native.Mathlib.Omega.{arith}
 use lib.ListN.{length}
 use Rattle.rules.specs.Limits.{longestFile}
@@ -11,16 +11,6 @@ use Rattle.rules.specs.Statement.{refusalLine}
 use Rattle.standard_input.specs.Reading.{FullyRead, ended, endedText, TextOf}
 use Rattle.standard_input.specs.declared.Ending.{Ending}
 use Rattle.standard_input.specs.declared.Ending.the-variants.{Whole, TooLong, Failed}
-use Rattle.text.specs.Text.{Put}
-use Rattle.text.proofs.Stands.{Stands, put-stands}
-
-pub too-long-stands :
-    {ending : Ending} {end : ℕ} {before after : List ℕ}
-    → ending ≡ TooLong
-    → Put (refusalLine fileFault 0) before 0 after end
-    → end ≤ length before
-    → Stands end after (endedText (ended ending))
-too-long-stands e put room = rw e (put-stands put room)
 
 module _ (report : List ℕ → List ℕ) (bytes : List ℕ) {ending : Ending} {printed : List ℕ} where
   -- read whole: the report of the bytes

@@ -6,11 +6,10 @@
 // programs. Each program writes by itself: of `io::write_all` nothing is promised, so nothing could be promised of a public function that calls it.
 use answer::Refusal;
 use libc::STDIN_FILENO;
-ghost use lib.ListN.{length, take};
-ghost use mathlib.Core.Path.{_≡_};
+ghost use lib.ListN.{length};
 ghost use Prim.Native.Nat.{_≤_};
 ghost use Rattle.standard_input.specs.Reading.{PieceWithin, Full, ended, endedText};
-ghost use Rattle.text.specs.Text.{longestRefusalLine};
+ghost use Rattle.text.specs.Text.{LinePut, longestRefusalLine};
 
 // What one read gives: bytes at the start of the part it was lent, the end of the input, or a failure.
 enum Piece {
@@ -95,8 +94,7 @@ pub fn read_month(buffer: &mut [u8]) -> Input
 // was read whole has no refusal of its own, and one that could not be read no answer.
 pub fn refusal_line(ending: Ending, out: &mut [u8]) -> usize
     requires { ⌜ longestRefusalLine ≤ length (now out) ⌝ }
-    ensures within { λ n. ⌜ n ≤ length (now (out .exit)) ⌝ }
-    ensures text { λ n. ⌜ take n (now (out .exit)) ≡ endedText (ended ending) ⌝ }
+    ensures { λ n. ⌜ LinePut (endedText (ended ending)) (now (out .entry)) 0 longestRefusalLine (now (out .exit)) n ⌝ }
 {
     match ending {
         Ending::Whole => 0,

@@ -1,15 +1,13 @@
 -- A text stands at the start of a buffer: so many of its first bytes are the text. That is what a program prints.
-use mathlib.Core.List.{List}
-use mathlib.Core.Path.{_≡_, refl, _∙_}
-use Prim.Native.Nat.{ℕ, _≤_}
+use mathlib.Core.List.{List, []}
+use mathlib.Core.Path.{_≡_, refl, sym, _∙_}
+use Prim.Native.Nat.{ℕ, _≤_, zero-le}
 use native.Mathlib.Nat.{zero-add}
 use native.Mathlib.Omega.{arith}
 use lib.ListN.{length, take, drop, length-append}
 use lib.Seq.{take-at}
-use Rattle.rules.specs.Refusals.{Refusal, Verdict, refused}
-use Rattle.rules.specs.Statement.{refusalLine}
-use Rattle.text.specs.Text.{Put, refusalText, atStart}
-use Rattle.text.proofs.Puts.{put-at-start}
+use Rattle.text.specs.Text.{Put, LinePut, atStart}
+use Rattle.text.proofs.Puts.{put-as, put-at-start}
 
 abbrev pub Stands : ℕ → List ℕ → List ℕ → Type 0
 Stands n buffer text = (n ≤ length buffer) × (take n buffer ≡ text)
@@ -25,11 +23,13 @@ put-stands {text} {before} {after} {end} put room =
     let long : end ≡ length text = put .ends ∙ zero-add (length text) in
     rw (put-at-start put room, long) (stands-at-start text before)
 
--- and the line of a refusal
-pub line-stands :
-    {v : Verdict} {r : Refusal} {place end : ℕ} {before after : List ℕ}
-    → v ≡ refused r place
-    → Put (refusalLine r place) before 0 after end
-    → end ≤ length before
-    → Stands end after (refusalText v)
-line-stands e put room = rw e (put-stands put room)
+-- a line within its room, in a buffer that has it
+pub line-stands : {text before after : List ℕ} {room end : ℕ} → LinePut text before 0 room after end → room ≤ length before → Stands end after text
+line-stands line room = put-stands (line .put) (omega (arith, line .within))
+
+-- what was put is the text that is asked; or nothing was, where none is
+pub line-put : {text line before after : List ℕ} {room end : ℕ} → text ≡ line → Put line before 0 after end → end ≤ room → LinePut text before 0 room after end
+line-put e put room = record { put = put-as (sym e) put; within = omega (arith, room) }
+
+pub no-line : {text : List ℕ} {room : ℕ} (before : List ℕ) → text ≡ [] → LinePut text before 0 room before 0
+no-line before e = record { put = put-as (sym e) (record { is = refl; ends = refl }); within = zero-le }

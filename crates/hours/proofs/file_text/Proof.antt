@@ -1,6 +1,7 @@
 -- `hours::file_text` meets its contract: what is printed, one part after the other, is the report of the file. Assumes nothing.
 use mathlib.Core.Path.{_∙_}
 use Rattle.hours.proofs.Texts.{alone-printed, lines-printed, refusal-printed}
+use Rattle.text.proofs.Stands.{line-stands}
 use borrow.Author.Needs.{needs}
 use Rattle.hours.proofs.file_text.Statement.{statement}
 use Rattle.hours.proofs.file_text.Tie as tie
@@ -35,8 +36,9 @@ returns c =
     let refused = line .before .before in
     let reporting = refused .before .before .before .before .before .before .before .before in
     let start = reporting .before .before .before .before .before .before .before .before in
+    let stands = line-stands (line .refusal-line .ensures) (search needs) in
     alone-printed (c .alone .ensures)
-    (line .refusal-line .ensures .0, line .refusal-line .ensures .1 ∙ refusal-printed _ _ _ _ (reporting .report .ensures) (start .pre) (refused .enum-told .given .1))
+    (stands .0, stands .1 ∙ refusal-printed _ _ _ _ (reporting .report .ensures) (start .pre) (refused .enum-told .given .1))
 
 same-length-4 : tie.Need-same-length-4
 same-length-4 c = search needs

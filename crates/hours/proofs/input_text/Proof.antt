@@ -4,6 +4,7 @@ use Prim.Native.Nat.{zero-le}
 use Rattle.hours.proofs.Texts.{alone-printed, whole-printed}
 use Rattle.report_text.proofs.Reports.{too-long-line}
 use Rattle.rules.specs.HoursReport as T
+use Rattle.text.proofs.Stands.{line-stands}
 use Rattle.standard_input.proofs.Endings.{too-long-text, failed-text}
 use borrow.Author.Needs.{needs}
 use Rattle.hours.proofs.input_text.Statement.{statement}
@@ -53,7 +54,7 @@ returns-2 c =
     let line = c .before .before .before in
     let ending-told = line .before .before in
     let start = ending-told .before .before .before .before .before .before in
-    let prints = alone-printed (c .alone .ensures) (line .refusal-line .ensures) in
+    let prints = alone-printed (c .alone .ensures) (line-stands (line .refusal-line .ensures) (search needs)) in
     (prints .0, too-long-text T.hoursReport _ too-long-line (start .pre .0) (ending-told .enum-told2 .given .1) (prints .1))
 
 returns-3 : tie.Need-returns-3

@@ -1,6 +1,7 @@
 -- `statement::file_text` meets its contract: what is printed is the statement of the file. Assumes nothing.
 use mathlib.Core.Path.{_∙_}
 use Rattle.statement_text.proofs.Texts.{lines-printed, refusal-printed}
+use Rattle.text.proofs.Stands.{line-stands}
 use borrow.Author.Needs.{needs}
 use Rattle.statement.proofs.file_text.Statement.{statement}
 use Rattle.statement.proofs.file_text.Tie as tie
@@ -26,7 +27,8 @@ returns c =
     let refused = c .before .before .before .before in
     let stating = refused .before .before .before .before in
     let start = stating .before .before .before .before in
-    (line .ensures .0, line .ensures .1 ∙ refusal-printed _ _ (stating .statement .ensures) (start .pre) (refused .enum-told .given .1))
+    let stands = line-stands (line .ensures) (search needs) in
+    (stands .0, stands .1 ∙ refusal-printed _ _ (stating .statement .ensures) (start .pre) (refused .enum-told .given .1))
 
 same-length-2 : tie.Need-same-length-2
 same-length-2 c = search needs

@@ -3,6 +3,7 @@ use Prim.Native.Nat.{zero-le}
 use Rattle.rules.specs.Statement as T
 use Rattle.standard_input.proofs.Endings.{whole-text, too-long-text, failed-text}
 use Rattle.statement_text.proofs.Statements.{too-long-line}
+use Rattle.text.proofs.Stands.{line-stands}
 use borrow.Author.Needs.{needs}
 use Rattle.statement.proofs.input_text.Statement.{statement}
 use Rattle.statement.proofs.input_text.Tie as tie
@@ -39,7 +40,8 @@ returns-2 c =
     let line = c .before .before in
     let ending-told = line .before .before in
     let start = ending-told .before .before .before .before in
-    (line .refusal-line .ensures .0, too-long-text T.statement _ too-long-line (start .pre .0) (ending-told .enum-told2 .given .1) (line .refusal-line .ensures .1))
+    let stands = line-stands (line .refusal-line .ensures) (search needs) in
+    (stands .0, too-long-text T.statement _ too-long-line (start .pre .0) (ending-told .enum-told2 .given .1) (stands .1))
 
 returns-3 : tie.Need-returns-3
 returns-3 c = (zero-le, failed-text T.statement _ (c .enum-told3 .given .1))
