@@ -9,7 +9,7 @@ use lib.ListN.{length, take, drop}
 use lib.Seq.{length-take-le}
 use Rattle.record.specs.Promised.{ReadAlonePromised}
 use Rattle.record.specs.Record.{recordOf, glnBytes, told}
-use Rattle.record_write.specs.Writing.{roomFor, wrote, WritePromised}
+use Rattle.record_write.specs.Writing.{roomFor, wrote, Promised}
 use Rattle.record.specs.declared.Read as Code
 use Rattle.record.specs.declared.Read.the-variants.{Given}
 use Rattle.record.specs.declared.Record as Code′
@@ -22,7 +22,7 @@ use Rattle.rules.proofs.RoundTrip as R
 use Rattle.record_write.proofs.WriteOne.{verdict-is}
 
 module _ (gln : List ℕ) (r : Code′.Record) (out after : List ℕ) (w : Code″.Written)
-    (wrote-it : WritePromised r gln out w after) where
+    (wrote-it : Promised r gln out w after) where
   -- READ OF WRITTEN IS THE SAME RECORD
   pub read-what-was-written : (n : ℕ) → w ≡ Bytes n → R.CountHeld (recordOf gln r)
       → (found : Code.Read) → ReadAlonePromised after found → told (glnBytes after) found ≡ given (recordOf gln r)
