@@ -71,6 +71,7 @@ module _ {file : List ℕ} {s : Sections} (ok : Accepted file s) (none : MonthAc
       pub run-lent : RunLent (monthOf file) start d p x l
       run-lent =
           record {
+            some = omega (arith, run-inside (s .heading .hours) start hours (both .0) .0, sizes .3);
             inside = omega (arith, run-inside (s .heading .hours) start hours (both .0) .1, sizes .3, hours-are file s ok);
             distributed-size = as-many (sizes .0);
             periodised-size = as-many (sizes .1);

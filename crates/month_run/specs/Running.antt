@@ -27,6 +27,7 @@ pub record RunKnown (file : List ℕ) (s : Sections) (applied curveNumbers begin
 
 -- a run of as many hours as losses are asked for lies in the month, and a place is lent for each figure
 pub record RunLent (m : MonthFile) (start distributed periodised differences losses : ℕ) : Type 0 where
+  pub some : 1 ≤ losses
   pub inside : start + losses ≤ H m
   pub distributed-size : distributed ≡ losses * P m
   pub periodised-size : periodised ≡ losses * P m

@@ -13,13 +13,13 @@ use Rattle.answer.specs.declared.Refusal.{Refusal}
 use Rattle.distribute.specs.Good.{Ready, Next}
 use Rattle.distribute.specs.declared.Carries.{Carries}
 use Rattle.file_sections.specs.declared.Sections.{Sections}
-use Rattle.file_sections.proofs.AcceptedFile.{hours-are}
+use Rattle.file_sections.proofs.AcceptedFile.{month-whole, hours-are}
 use Rattle.hour_settled.specs.Column.{column, Column}
 use Rattle.month_walk.specs.declared.Opened.{Opened}
 use Rattle.month_walk.specs.declared.Held.{Held}
 use Rattle.month_walk.specs.declared.Walk.{Walk}
 use Rattle.month_walk.specs.Hours.{HourKnown, DistributedIs}
-use Rattle.month_walk.specs.Walking.{MonthKnown, Beginning, Holds, Holding, HoldsHour, OpenedIs, Walked, begun, HourOn, SteppedIs, HourAsked, windowPlaces}
+use Rattle.month_walk.specs.Walking.{MonthKnown, Beginning, Holds, Holding, HoldsHour, OpenedIs, Walked, begun, SomeWindow, HourOn, SteppedIs, HourAsked, windowPlaces}
 use Rattle.month_walk.proofs.Bounds.{few-hours, few-parties}
 use Rattle.month_walk.proofs.Carrying as C
 use Rattle.rules.specs.Limits.{greatestPeriodised, mostHours}
@@ -30,12 +30,13 @@ use Rattle.rules.specs.Words.{figures}
 use Rattle.rules.proofs.Loops.{figures-length, figures-at}
 use Rattle.rules.proofs.Month.{Judged, periodised-at-most}
 use Rattle.rules.proofs.Refusals.{in-turn-exactly}
+use Rattle.rules.proofs.Whole.{heading-facts}
 
 -- before the first hour: there is no window yet, and its places may hold anything
 pub walk-begins : {file : List ℕ} {c : Carries} → Beginning file c → {window : List ℕ} → length window ≡ windowPlaces → Walked (monthOf file) (begun c) window
 unfolding R.inTurn figures R.first
 walk-begins {file} {c} begin {window} size =
-    record { carried = C.carried-start (monthOf file) (begin .started); holds = holds; begun = zero-le; come = zero-le }
+    record { carried = C.carried-start (monthOf file) (begin .started); holds = holds; begun = zero-le; come = zero-le; last = λ b. absurd (omega (arith, b)) }
   where
     holds : Holds (monthOf file) (begun c .held) window
     holds =
@@ -56,12 +57,22 @@ walk-passed {m} {w} a =
     in-turn-exactly (w .t) (periodisedVerdict m) .1
     (λ u b. in-turn-exactly (w .held .start + w .held .hours) (periodisedVerdict m) .0 (a .holds .passed) u (omega (arith, a .come)))
 
+-- what the window holds once an hour has been walked
+pub walk-window : {m : MonthFile} {w : Walk} {window : List ℕ} → Walked m w window → 1 ≤ w .t → SomeWindow m window
+walk-window {m} {w} a b = record { held = w .held; some = omega (arith, a .come, a .last b); is = a .holds .is }
+
 module _ {file : List ℕ} {s : Sections} {applied curveNumbers beginnings : List ℕ} (known : MonthKnown file s applied curveNumbers beginnings) where
   abbrev m : MonthFile
   m = monthOf file
 
   abbrev judged : Judged m
   judged = known .windows .judged
+
+  -- a month has an hour
+  pub some-hours : 1 ≤ s .heading .hours
+  unfolding H
+  some-hours =
+      omega (arith, hours-are file s (known .windows .accepted), heading-facts (m .heading) (month-whole file s (known .windows .accepted) .head) .hours .0)
 
   -- the residual of an hour
   module _ {t : ℕ} (b : t < H m) where
@@ -80,9 +91,12 @@ module _ {file : List ℕ} {s : Sections} {applied curveNumbers beginnings : Lis
     holding = record { holds = at .holds; begun = at .begun; come = at .come; hour = b }
 
     module _ {opened : Opened} {window′ : List ℕ} (is : OpenedIs m (w .t) opened window′) where
+      its-window : SomeWindow m window′
+      its-window = record { held = opened .held; some = omega (arith, is .begun, is .left); is = is .is }
+
       pub step-stops : (x : Refusal) (place : ℕ) → opened .answer ≡ Refused x place → (w′ : Walk) → w′ .answer ≡ opened .answer → SteppedIs m (w .t) w′ window′
       step-stops x place e w′ same =
-          record { window-is = record { held = opened .held; is = is .is }; on = λ done. absurd (never (sym e ∙ sym same ∙ done)); stopped = λ y q f. ap said same ∙ is .stopped y q (sym same ∙ f) }
+          record { window-is = its-window; on = λ done. absurd (never (sym e ∙ sym same ∙ done)); stopped = λ y q f. ap said same ∙ is .stopped y q (sym same ∙ f) }
         where
           never : _≡_ {A = Answer} (Refused x place) Done → ⊥
           never e = let z : _≡_ {A = ℕ} 0 1 = cc in omega arith
@@ -101,9 +115,9 @@ module _ {file : List ℕ} {s : Sections} {applied curveNumbers beginnings : Lis
           let come : w .t + 1 ≤ opened .held .start + opened .held .hours = omega (arith, hour .left) in
           let begun : opened .held .start ≤ w .t + 1 = omega (arith, hour .begun) in
           let walked : Walked m (record { answer = opened .answer; carries = c; t = w .t + 1; held = opened .held }) window′ =
-          record { carried = carried; holds = hour .holds; begun = begun; come = come } in
+          record { carried = carried; holds = hour .holds; begun = begun; come = come; last = λ b. omega (arith, hour .begun) } in
           let given = C.figures-are m judged b (at .carried) (residual-is b) next in
-          record { window-is = record { held = opened .held; is = is .is }; on = λ e. record { walked = walked; one-on = refl; hour = hour; distributed = given }; stopped = is .stopped }
+          record { window-is = its-window; on = λ e. record { walked = walked; one-on = refl; hour = hour; distributed = given }; stopped = is .stopped }
 
 -- an hour of a window
 module _ {file : List ℕ} {s : Sections} {t residual : ℕ} {x : Held} {distributed : List ℤ} {window : List ℕ} (a : HourAsked file s t residual x distributed window) where

@@ -58,9 +58,10 @@ pub record WindowIs (m : MonthFile) (x : Held) (window : List ℕ) : Type 0 wher
   pub fits : P m * x .hours ≤ windowPlaces
   pub each : (i k : ℕ) → i < P m → k < x .hours → column window (x .hours) k i ≡ periodised m (x .start + k) i
 
--- whichever hours these are: the window is lent for the walk alone, and what it holds afterwards is that of the hours walked last
+-- whichever hours these are, and one of them at least: the window is lent for the walk alone, and what it holds afterwards is that of the hours walked last
 pub record SomeWindow (m : MonthFile) (window : List ℕ) : Type 0 where
   pub held : Held
+  pub some : 1 ≤ held .hours
   pub is : WindowIs m held window
 
 -- a window up to whose last hour none is refused with 14
@@ -83,6 +84,8 @@ pub record HoldsHour (m : MonthFile) (x : Held) (t : ℕ) (window : List ℕ) : 
 
 -- the window of hour t; and the verdict of 14 over the whole month where one of its hours is refused
 pub record OpenedIs (m : MonthFile) (t : ℕ) (r : Opened) (window : List ℕ) : Type 0 where
+  pub begun : r .held .start ≤ t
+  pub left : t < r .held .start + r .held .hours
   pub is : WindowIs m (r .held) window
   pub opened : r .answer ≡ Done → HoldsHour m (r .held) t window
   pub stopped : (x : Refusal) (place : ℕ) → r .answer ≡ Refused x place → said (r .answer) ≡ inTurn (H m) (periodisedVerdict m)
@@ -93,6 +96,8 @@ pub record Walked (m : MonthFile) (w : Walk) (window : List ℕ) : Type 0 where
   pub holds : Holds m (w .held) window
   pub begun : w .held .start ≤ w .t
   pub come : w .t ≤ w .held .start + w .held .hours
+  -- the hour walked last is one of the window's
+  pub last : 1 ≤ w .t → w .held .start < w .t
 
 -- before the first hour
 abbrev pub begun : Carries → Walk

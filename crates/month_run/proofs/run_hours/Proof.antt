@@ -5,6 +5,7 @@ use native.Mathlib.Omega.{arith}
 use lib.ListN.{length}
 use Rattle.month_run.proofs.Going.{Going, goes, residual-here, few-here, in-run, running-here, step-asked, one-on, hour-asked, goes-on, ends}
 use Rattle.month_walk.proofs.Bounds.{few-hours}
+use Rattle.month_walk.proofs.Walking.{walk-window}
 use Rattle.rules.specs.Month.{monthOf}
 use borrow.Author.Needs.{needs}
 use Rattle.month_run.proofs.run_hours.Statement.{statement}
@@ -102,7 +103,7 @@ same-length-5 c = c .before .before .loop .inv .running .losses .size
 returns : tie.Need-returns Inv-loop μ-loop
 returns c =
     let round = c .before .before in
-    (ends (begins round .pre .0) (round .loop .inv) (omega arith), record { held = _; is = round .loop .inv .walked .holds .is })
+    (ends (begins round .pre .0) (round .loop .inv) (omega arith), walk-window (round .loop .inv .walked) (omega (arith, begins round .pre .1 .1 .1 .some)))
 
 pub run-hours-spec : {M : Type 1} → statement M
 run-hours-spec =

@@ -2,6 +2,7 @@
 use mathlib.Core.Path.{sym, _∙_}
 use Prim.Native.Nat.{_-_}
 use native.Mathlib.Omega.{arith}
+use Rattle.month_walk.proofs.Walking.{some-hours, walk-window}
 use Rattle.report_figures.proofs.Passing.{Going, goes, step-asked, stops, hour-asked, goes-on, ends}
 use Rattle.rules.specs.Month.{monthOf}
 use borrow.Author.Needs.{needs}
@@ -102,7 +103,7 @@ same-length-6 c = c .before .before .loop .inv .passed .periodised .size ∙ sym
 returns-2 : tie.Need-returns-2 Inv-loop μ-loop
 returns-2 c =
     let round = c .before .before in
-    (ends (begins round .pre .0) (round .loop .inv) (omega arith), record { held = _; is = round .loop .inv .walked .holds .is })
+    (ends (begins round .pre .0) (round .loop .inv) (omega arith), walk-window (round .loop .inv .walked) (omega (arith, some-hours (begins round .pre .0))))
 
 pub pass-hours-spec : {M : Type 1} → statement M
 pass-hours-spec =
