@@ -5,11 +5,12 @@ use Prim.Native.Nat.{ℕ, _<_}
 use native.Mathlib.Omega.{arith}
 use Rattle.answer.specs.Promised.{Answered}
 use Rattle.answer.specs.Said.{said}
-use Rattle.every_service.specs.NothingWritten.{Refused, Refuses, verdictOf, wroteVerdict, NotZero, Unwritten, NothingWritten}
+use Rattle.every_service.specs.NothingWritten.{Refused, Refuses, wroteVerdict, NotZero, Unwritten, NothingWritten}
 use Rattle.record_write.specs.Writing as Write
 use Rattle.record_write.specs.declared.Written.{Written}
 use Rattle.rules.specs.Record.{Record}
-use Rattle.rules.specs.Refusals.{Verdict, accepted, refused, answer, afterwards}
+use Rattle.rules.specs.Refusals.{Verdict, accepted, refused, Answer, verdictTold, afterwards}
+use Rattle.rules.proofs.Refusals.{verdict-back}
 use Rattle.settle_c.specs.Coded.{coded, kept}
 use Rattle.settle_c.specs.Promised.{Numbered}
 
@@ -39,15 +40,10 @@ unfolding Unwritten
 numbered verdict figures lent n held some p = left verdict figures lent (not-zero verdict (p .answer) some) (p .contents)
 
 -- the record writer's answer tells its verdict
-verdict-back : (v : Verdict) (n : ℕ) → verdictOf (answer v n) ≡ v
-unfolding answer
-verdict-back accepted n = refl
-verdict-back (refused why place) n = refl
-
 wrote-nothing : (r : Record) (lent : List ℕ) (v : Verdict) → Unwritten (Refuses wroteVerdict) lent (λ (w : Written) (held : List ℕ). Write.WrittenUnder r lent v (Write.wrote w) held)
 unfolding Unwritten
 wrote-nothing r lent v w held refuses p =
-    left v _ lent (record { why = refuses .why; place = refuses .place; told = sym (verdict-back v _) ∙ ap verdictOf (sym (p .0)) ∙ refuses .told }) (p .1)
+    left v _ lent (record { why = refuses .why; place = refuses .place; told = sym (verdict-back v _) ∙ ap (λ (a : Answer ℕ). verdictTold a) (sym (p .0)) ∙ refuses .told }) (p .1)
 
 pub nothing-written : NothingWritten
 unfolding Unwritten

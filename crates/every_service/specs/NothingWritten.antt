@@ -19,7 +19,7 @@ use Rattle.record_write.specs.Writing as Write
 use Rattle.record_write.specs.declared.Written.{Written}
 use Rattle.report_text.specs.Reporting as Report
 use Rattle.residual_service.specs.Promised as Residual
-use Rattle.rules.specs.Refusals.{Refusal, Verdict, accepted, refused, Answer, given, refusal}
+use Rattle.rules.specs.Refusals.{Refusal, Verdict, refused, verdictTold}
 use Rattle.settle_c.specs.Promised as C
 use Rattle.statement_text.specs.Stating as Statement
 
@@ -33,14 +33,9 @@ pub record Refused (v : Verdict) : Type 0 where
 abbrev pub Refuses : {Result : Type 0} → (Result → Verdict) → Result → Type 0
 Refuses verdict r = Refused (verdict r)
 
--- the verdict of an answer that gives a value
-abbrev pub verdictOf : {A : Type 0} → Answer A → Verdict
-verdictOf (given a) = accepted
-verdictOf (refusal why place) = refused why place
-
 -- the record writer's answer
 abbrev pub wroteVerdict : Written → Verdict
-wroteVerdict w = verdictOf (Write.wrote w)
+wroteVerdict w = verdictTold (Write.wrote w)
 
 -- for C, whose 0 is an acceptance: any other number is a refusal
 abbrev pub NotZero : ℕ → Type 0

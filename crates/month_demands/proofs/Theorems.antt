@@ -19,7 +19,7 @@ use Rattle.rules.specs.Distributed.{distributedFigure}
 use Rattle.rules.specs.Month.{monthRead, monthOf, shareOf, appliedWh, distributed, periodised, allPeriodised, loss, monthDistributed, monthPeriodised, monthLoss, monthDifference, monthAmount, monthChecks, monthVerdict, verdictOn, fileVerdict, callVerdict}
 use Rattle.rules.specs.MonthFile.{MonthFile, H, P, readMonth}
 use Rattle.rules.specs.Reconciliation.{lossOf}
-use Rattle.rules.specs.Refusals.{Refusal, wrongLength, Verdict, accepted, refused, Answer, given, refusal, unless, andThen, first, answer, afterwards}
+use Rattle.rules.specs.Refusals.{Refusal, wrongLength, Verdict, accepted, refused, Answer, given, refusal, unless, andThen, first, answer, afterwards, verdictTold}
 use Rattle.rules.specs.Services.{atℤ}
 use Rattle.rules.specs.WellFormed.{Bytes}
 use Rattle.rules.specs.Words.{sum, sumℤ, at, figures}
@@ -29,24 +29,15 @@ use Rattle.rules.proofs.Loops.{figures-length, figures-at}
 use Rattle.rules.proofs.Month.{Judged, accepted-is-judged, heading-right, W-in-range, fixed-hours-have, every-hour-has-its-figure, demand-3-of-the-month, hour-differences-add-up, all-distributed, all-differences, all-amounts}
 use Rattle.rules.proofs.ReadingRefused.{reading-refused-exactly}
 use Rattle.rules.proofs.Reconciliation.{one-carries-the-loss}
-use Rattle.rules.proofs.Refusals.{refused-not-accepted, accepted-exactly, refused-exactly, both-accept, unless-exactly}
+use Rattle.rules.proofs.Refusals.{refused-not-accepted, accepted-exactly, refused-exactly, both-accept, unless-exactly, verdict-back}
 use Rattle.rules.proofs.Sums.{sum-cong, sum-swap}
 use Rattle.rules.proofs.WellFormed.{read-exactly}
 use Rattle.rules.proofs.Whole.{what-is-read-is-whole}
 
 -- The verdict can be read back from what an answer tells.
-abbrev verdictTold : Answer Summary → Verdict
-verdictTold (given s) = accepted
-verdictTold (refusal r place) = refused r place
-
 as-told : (r : Settlement) → verdictTold (told r) ≡ verdict r
 as-told (Settled s) = refl
 as-told (Refused r place) = refl
-
-as-answered : (v : Verdict) (s : Summary) → verdictTold (answer v s) ≡ v
-unfolding answer
-as-answered accepted s = refl
-as-answered (refused r place) s = refl
 
 -- THE EXACT CONDITIONS of the call's verdict: of what the file is read as, and of the lent outputs.
 module _ (file : List ℕ) (lent : Outputs) where
@@ -183,7 +174,7 @@ since-first m i =
 module _ {file : List ℕ} {r : Settlement} (lent held : Outputs) (is : Kept file r lent held) where
   its-verdict : verdict r ≡ verdictFor file lent (readMonth file)
   its-verdict =
-      sym (as-told r) ∙ ap verdictTold (is .answer) ∙ as-answered _ (summaryOf (monthOf file))
+      sym (as-told r) ∙ ap (λ (a : Answer Summary). verdictTold a) (is .answer) ∙ verdict-back _ (summaryOf (monthOf file))
       ∙ the-call file lent
 
   -- "A month is accepted exactly when no refusal there applies." A slice of bytes has members below 256, which is all that is asked.

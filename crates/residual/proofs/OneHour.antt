@@ -13,9 +13,7 @@ use mir.Val.{Fits}
 use Rattle.rules.specs.Flows.{judgedBy, figure, noFigure}
 use Rattle.rules.specs.Limits.{greatestResidual}
 use Rattle.rules.specs.Refusals.{missingHour, residualNegative, residualTooLarge}
-
-contrary : true ≡ false → ⊥
-contrary e = let z : _≡_ {A = ℕ} 0 1 = cc in omega arith
+use Rattle.rules.proofs.Whole.{true-not-false}
 
 pub is-missing : (status : ℕ) (r : ℤ) → status ≡ 0 → noFigure missingHour ≡ judgedBy status r
 unfolding judgedBy
@@ -32,15 +30,15 @@ pub is-figure : (status : ℕ) (r : ℤ) → (status ≡ 0 → ⊥) → ltZ r (p
 unfolding judgedBy
 is-figure zero r present low high = absurd (present refl)
 is-figure (suc status) (pos n) present low high = rw (le-leb n greatestResidual (omega (arith, ltb-true n (suc greatestResidual) high)))
-is-figure (suc status) (negsuc n) present low high = absurd (contrary low)
+is-figure (suc status) (negsuc n) present low high = absurd (true-not-false low)
 
 pub is-too-large : (status : ℕ) (r : ℤ) → (status ≡ 0 → ⊥) → ltZ r (pos 0) ≡ false → ltZ r (pos (suc greatestResidual)) ≡ false → noFigure residualTooLarge ≡ judgedBy status r
 unfolding judgedBy
 is-too-large zero r present low high = absurd (present refl)
 is-too-large (suc status) (pos n) present low high = rw (lt-leb n greatestResidual (omega (arith, ltb-false n (suc greatestResidual) high)))
-is-too-large (suc status) (negsuc n) present low high = absurd (contrary low)
+is-too-large (suc status) (negsuc n) present low high = absurd (true-not-false low)
 
 -- a figure fits 32 bits
 pub figure-fits : (r : ℤ) → ltZ r (pos 0) ≡ false → ltZ r (pos (suc greatestResidual)) ≡ true → T (nonNeg r) × Fits w32 (natAbs r)
 figure-fits (pos n) low high = (tt, record { fits = omega (arith, ltb-true n (suc greatestResidual) high) })
-figure-fits (negsuc n) low high = absurd (contrary low)
+figure-fits (negsuc n) low high = absurd (true-not-false low)

@@ -18,9 +18,8 @@ use Rattle.rules.specs.ReadingRefused.{Passes, AllPass, withAll}
 use Rattle.rules.specs.Refusals.{unless, andThen, first}
 use Rattle.rules.specs.WellFormed.{Every, numbered, asParty, asReading, recordsOf, Rising, PartyRight, FlowsRight, PriceRight, ReadingRight, Whole}
 use Rattle.rules.proofs.Places.{parties-due, fixed-due, no-readings}
-use Rattle.rules.proofs.ReadThrough.{true-not-false}
 use Rattle.rules.proofs.Refusals.{accepted-exactly, unless-exactly}
-use Rattle.rules.proofs.Whole.{Sound, nothing-is-sound, heading-facts, both-pass, rises-strictly, step}
+use Rattle.rules.proofs.Whole.{true-not-false, Sound, nothing-is-sound, heading-facts, both-pass, rises-strictly, step}
 
 -- WHAT PASSES IS A MONTH'S RECORDS: where a record is due, the sections after its own are still empty, so it is the next of the month's records
 

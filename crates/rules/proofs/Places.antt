@@ -20,8 +20,8 @@ use Rattle.rules.specs.Record.{cutInto, kindAt, recordAt, inFile, headin
 use Rattle.rules.specs.Refusals.{given, first}
 use Rattle.rules.specs.WellFormed.{asParty, asReading}
 use Rattle.rules.specs.Words.{at}
-use Rattle.rules.proofs.Whole.{Counts, Sound, before-the-heading, both-pass, heading-facts, step, nothing-is-sound, given-not-refusal, went-on, closed-gives, of-the-right-length}
-use Rattle.rules.proofs.Refusals.{accepted-exactly, unless-exactly}
+use Rattle.rules.proofs.Whole.{Counts, Sound, before-the-heading, both-pass, heading-facts, step, nothing-is-sound, went-on, closed-gives, of-the-right-length}
+use Rattle.rules.proofs.Refusals.{accepted-exactly, unless-exactly, given-not-refusal}
 pub use Rattle.rules.proofs.EachKind.{lengthOf, length-of-record}
 
 -- a record of the file that stands at an offset

@@ -26,7 +26,7 @@ use Rattle.rules.specs.Words.{at, within, withinℤ, joined}
 use Rattle.rules.proofs.EachKind.{kind-known}
 use Rattle.rules.proofs.Refusals.{accepted-exactly, unless-exactly}
 use Rattle.rules.proofs.RoundTrip.{CountHeld, record-back, kind-back, record-length, written-of-read, bytes-drop}
-use Rattle.rules.proofs.Whole.{Sound, nothing-is-sound, heading-facts, both-pass, within-is, step, bound-is-enough}
+use Rattle.rules.proofs.Whole.{Sound, nothing-is-sound, heading-facts, true-not-false, both-pass, within-is, step, bound-is-enough}
 
 -- IN A FILE AND ALONE: a record without fault in a file is one without fault alone, since no file has more hours or parties than a record alone may have
 module _ (m : MonthFile) (s : Sound m) where
@@ -117,9 +117,6 @@ one-record m s n r d c held rest =
     ∙ ap₂ (λ (x : Record) (left : List ℕ). onFrom x left n m) is (drop-at body rest (bodyLength (kindOf r)) (omega arith))
 
 -- RECORDS THAT PASS
-
-pub true-not-false : _≡_ {A = Bool} true false → ⊥
-true-not-false e = let z : _≡_ {A = ℕ} 0 1 = cc in omega arith
 
 -- only an end has a count to be held
 no-count : (r : Record) → isEnd r ≡ false → CountHeld r

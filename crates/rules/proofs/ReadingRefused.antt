@@ -15,7 +15,6 @@ use Rattle.rules.specs.WellFormed.{Bytes}
 use Rattle.rules.specs.Words.{within}
 use Rattle.rules.proofs.ReadThrough.{readFrom, Stop, nothing-left, check-refuses, right-end, answerAt, Course, file-course, answer-of-course}
 use Rattle.rules.proofs.Refusals as R
-use Rattle.rules.proofs.Whole.{given-not-refusal}
 
 same-refusal : {r r′ : Refusal} {place place′ : ℕ} → _≡_ {A = Answer MonthFile} (refusal r place) (refusal r′ place′) → (r′ ≡ r) × (place′ ≡ place)
 same-refusal e = (cc, cc)
@@ -27,7 +26,7 @@ module _ (r : Refusal) (place : ℕ) where
   rest-refuses m n rest (nothing-left e) is = no-end e (same-refusal is .0) (same-refusal is .1)
   rest-refuses m n rest (check-refuses some why at e) is =
       the-record some (R.refused-exactly (recordChecks m n rest) r place .0 (e ∙ ap₂ refused (sym (same-refusal is .0)) (sym (same-refusal is .1))))
-  rest-refuses m n rest (right-end d [] e) is = absurd (given-not-refusal (sym is))
+  rest-refuses m n rest (right-end d [] e) is = absurd (R.given-not-refusal (sym is))
   rest-refuses m n rest (right-end d (byte ∷ bytes) e) is = bytes-after d byte bytes e (same-refusal is .0) (same-refusal is .1)
 
   -- and the other way

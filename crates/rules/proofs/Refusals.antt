@@ -7,7 +7,7 @@ use Prim.Native.Nat.{ℕ, zero, suc, _+_, _<_}
 use native.Mathlib.Nat.{eq-or-lt-of-le, le-of-suc-le-suc, not-suc-le-zero}
 use native.Mathlib.Omega.{arith}
 use Rattle.rules.specs.Accepted.{NoneRefuses, FirstRefuses}
-use Rattle.rules.specs.Refusals.{Refusal, Verdict, accepted, refused, given, refusal, unless, andThen, first, inTurn, answer}
+use Rattle.rules.specs.Refusals.{Refusal, Verdict, accepted, refused, given, refusal, unless, andThen, first, inTurn, answer, verdictTold}
 use Rattle.rules.specs.Words.{figures}
 
 pub refused-not-accepted : {r : Refusal} {place : ℕ} → refused r place ≡ accepted → ⊥
@@ -103,15 +103,20 @@ unless-exactly true r place = (λ e. refl, λ e. refl)
 unless-exactly false r place = (λ e. absurd (refused-not-accepted e), λ e. let z : _≡_ {A = ℕ} 0 1 = cc in absurd (omega arith))
 
 -- WHAT AN ANSWER TELLS of the verdict that it follows: accepted, where it gives a value, and the value is that of the call; else the refusal
-given-not-refusal : {A : Type 0} {a : A} {r : Refusal} {place : ℕ} → given a ≡ refusal r place → ⊥
+pub given-not-refusal : {A : Type 0} {a : A} {r : Refusal} {place : ℕ} → refusal r place ≡ given a → ⊥
 given-not-refusal e = let z : _≡_ {A = ℕ} 0 1 = cc in absurd (omega arith)
+
+pub verdict-back : {A : Type 0} (v : Verdict) (a : A) → verdictTold (answer v a) ≡ v
+unfolding answer
+verdict-back accepted a = refl
+verdict-back (refused r place) a = refl
 
 pub given-tells : {A : Type 0} (v : Verdict) (value : A) {a : A} → given a ≡ answer v value → (v ≡ accepted) × (a ≡ value)
 unfolding answer
 given-tells accepted value e = (refl, cc)
-given-tells (refused r place) value e = absurd (given-not-refusal e)
+given-tells (refused r place) value e = absurd (given-not-refusal (sym e))
 
 pub refusal-tells : {A : Type 0} (v : Verdict) (value : A) {r : Refusal} {place : ℕ} → refusal r place ≡ answer v value → v ≡ refused r place
 unfolding answer
-refusal-tells accepted value e = absurd (given-not-refusal (sym e))
+refusal-tells accepted value e = absurd (given-not-refusal e)
 refusal-tells (refused x q) value {r} {place} e = let same : x ≡ r = cc in let at : q ≡ place = cc in ap₂ refused same at

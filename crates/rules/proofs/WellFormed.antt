@@ -18,7 +18,8 @@ use Rattle.rules.specs.WellFormed.{Bytes, recordsOf, bytesOfAll, fileOf,
 use Rattle.rules.specs.Words.{within}
 use Rattle.rules.proofs.MonthRecords.{records-are, Through, hours-there, whole-month-passes}
 use Rattle.rules.proofs.ReadThrough.{Stop, nothing-left, check-refuses, right-end, answerAt, Course, file-course, answer-of-course}
-use Rattle.rules.proofs.Whole.{both-pass, within-is, given-not-refusal, of-the-right-length, what-is-read-is-whole}
+use Rattle.rules.proofs.Refusals.{given-not-refusal}
+use Rattle.rules.proofs.Whole.{both-pass, within-is, of-the-right-length, what-is-read-is-whole}
 
 -- A WELL-FORMED FILE IS READ, as the month that it is the file of
 pub well-formed-is-read : (m : MonthFile) → WellFormed m → readMonth (fileOf m) ≡ given m

@@ -20,10 +20,13 @@ use Rattle.rules.specs.Record.{Heading, Party, Reading, Record, heading,
 use Rattle.rules.specs.Record.{inFile, headingInRange, hourInRange, checks}
 use Rattle.rules.specs.Refusals.{Refusal, fileFault, Verdict, accepted, refused, Answer, given, refusal, first}
 use Rattle.rules.specs.Words.{within, withinℤ}
-use Rattle.rules.proofs.Refusals.{accepted-exactly, unless-exactly}
+use Rattle.rules.proofs.Refusals.{accepted-exactly, unless-exactly, given-not-refusal}
 pub use Rattle.rules.specs.WellFormed.{Every, PartyRight, FlowsRight, PriceRight, ReadingRight, HeadingRight, Below, Rising, Whole}
 
--- Tests that are both passed.
+-- Tests: one is passed or not; both are passed; one of them is.
+pub true-not-false : _≡_ {A = Bool} true false → ⊥
+true-not-false e = let z : _≡_ {A = ℕ} 0 1 = cc in omega arith
+
 pub both-pass : (a b : Bool) → a && b ≡ true → (a ≡ true) × (b ≡ true)
 both-pass true b e = (refl, e)
 both-pass false b e = (e, absurd (let z : _≡_ {A = ℕ} 0 1 = cc in omega arith))
@@ -421,9 +424,6 @@ step m s n (reading r) d c = with-reading m s n r d c
 step m s n (price hour z) d c = with-price m s n hour z d c
 step m s n (refixedHour hour f) d c = with-refixed m s n hour f d c
 step m s n (end count) d c = s
-
-pub given-not-refusal : {m : MonthFile} {r : Refusal} {place : ℕ} → refusal r place ≡ given m → ⊥
-given-not-refusal e = let z : _≡_ {A = ℕ} 0 1 = cc in omega arith
 
 pub went-on : (v : Verdict) (rest : Answer MonthFile) {m : MonthFile} → onward v rest ≡ given m → (v ≡ accepted) × (rest ≡ given m)
 unfolding onward

@@ -90,6 +90,11 @@ unfoldable pub answer : {A : Type 0} → Verdict → A → Answer A
 answer accepted a = given a
 answer (refused r place) a = refusal r place
 
+-- and back: the verdict that an answer tells
+abbrev pub verdictTold : {A : Type 0} → Answer A → Verdict
+verdictTold (given a) = accepted
+verdictTold (refusal r place) = refused r place
+
 -- "A refused call writes nothing into any buffer it was lent." (00, demand 1): what a lent buffer holds once the call has answered
 unfoldable pub afterwards : {A : Type 0} → Verdict → List A → List A → List A
 afterwards accepted new old = new
