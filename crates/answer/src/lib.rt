@@ -2,7 +2,7 @@
 // of specs/Said.antt reads an answer as the verdict of the rules.
 ghost use Rattle.answer.specs.Promised.{NumberPromised, EachAtMostPromised, WithinPromised, EachWithinPromised};
 
-// The refusals, in the order of the paper's table.
+// The refusals, in the order of the paper's table, and then those that came with the requests (02).
 pub enum Refusal {
     FileFault,
     UnknownKind,
@@ -20,6 +20,7 @@ pub enum Refusal {
     PeriodisedTooLarge,
     WrongCount,
     WrongLength,
+    NotRefixed,
 }
 
 // The answer of a call that gives nothing but what it writes.
@@ -49,6 +50,7 @@ pub fn number(r: Refusal) -> u8
         Refusal::PeriodisedTooLarge => 14,
         Refusal::WrongCount => 15,
         Refusal::WrongLength => 16,
+        Refusal::NotRefixed => 17,
     }
 }
 

@@ -16,8 +16,8 @@ use Rattle.rules.specs.PlainRecord.{noSign, nthNoSign, plainHeading, pla
 use Rattle.rules.specs.MonthFile.{recordChecks, isEnd, closed, onward, readOn, readMonth}
 use Rattle.rules.specs.Month.{partyAt, flowsAt, readingAt, priceAt, shareOf, monthW, fixedWh, appliedFlows, appliedWh, curve, distributed, weightOf, S, readingFigure, figureFor}
 use Rattle.rules.specs.Month.{periodised, allPeriodised, loss, difference, amount, monthDistributed, monthPeriodised, monthLoss, monthDifference, monthAmount, invoice, isEstimated}
-use Rattle.rules.specs.Month.{estimatedHours, hourVerdict, curveVerdict, readingVerdict, periodisedVerdict, monthChecks, monthVerdict}
-use Rattle.rules.specs.Statement.{digitsIn, decimal, signedDecimal, digitsOfWidth, newline, refusalLine, headingText, headingLine, columnsLine, partyLine, totalLine, statementLines}
+use Rattle.rules.specs.Month.{estimatedHours, refixedVerdict, hourVerdict, curveVerdict, readingVerdict, periodisedVerdict, monthChecks, monthVerdict}
+use Rattle.rules.specs.Statement.{digitsIn, decimal, signedDecimal, digitsOfWidth, newline, refusalLine, provisionalEnding, headingText, headingLine, columnsLine, partyLine, totalLine, statementLines}
 use Rattle.rules.specs.Statement.{judgedStatement, answeredStatement, statement}
 use Rattle.rules.specs.Demands.{exactShare}
 use Rattle.rules.specs.HoursReport.{statusWord, statusesText, seriesText, partsText, allDistributed, hourLine, distanceAfter, distanceAt, smaller, larger, smallest, largest}
@@ -100,7 +100,7 @@ unfolding allPeriodised loss difference amount monthDistributed monthPeriodised 
 months-2 = tt
 
 unfoldable pub months-3 : Unit {0}
-unfolding hourVerdict curveVerdict readingVerdict periodisedVerdict monthChecks monthVerdict
+unfolding refixedVerdict hourVerdict curveVerdict readingVerdict periodisedVerdict monthChecks monthVerdict
 months-3 = tt
 
 unfoldable pub months : Unit {0}
@@ -108,7 +108,7 @@ unfolding months-1 months-2 months-3
 months = tt
 
 unfoldable pub texts-1 : Unit {0}
-unfolding digitsIn decimal signedDecimal digitsOfWidth newline refusalLine headingText headingLine columnsLine partyLine totalLine statementLines
+unfolding digitsIn decimal signedDecimal digitsOfWidth newline refusalLine provisionalEnding headingText headingLine columnsLine partyLine totalLine statementLines
 texts-1 = tt
 
 unfoldable pub texts-2 : Unit {0}

@@ -10,6 +10,7 @@ pub mod Periodised
 pub mod Reconciliation
 pub mod Whole
 pub mod Month
+pub mod Setting
 pub mod Readings
 pub mod Lines
 pub mod HoursReport

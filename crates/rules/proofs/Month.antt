@@ -21,6 +21,7 @@ use Rattle.rules.specs.Month.{periodisedVerdict, monthChecks, monthVerdi
 use Rattle.rules.specs.MonthFile.{MonthFile, H, P}
 use Rattle.rules.specs.Reconciliation.{gridLoss, lossOf, differenceOf, amountMillionths}
 use Rattle.rules.specs.Refusals.{wOutOfRange, residualTooLarge, accepted, unless, inTurn}
+use Rattle.rules.specs.Setting.{Setting}
 use Rattle.rules.specs.Words.{sum, sumℤ, within}
 use Rattle.rules.proofs.Demand3.{demand-3, growth-in-range}
 use Rattle.rules.proofs.Integers.{minus-add, minus-near, opposite, pos-minus-zero, size-of-product, size-of-sums, sumℤ-cong, sumℤ-swap, sumℤ-zero, sumℤ-pos}
@@ -203,22 +204,22 @@ module _ (m : MonthFile) (j : Judged m) where
     amount-fits = rw (size-of-product (difference m t i) (priceAt m t)) (mul-le-mul difference-fits price-fits)
 
 -- AN ACCEPTED MONTH: no check of it refuses
-module _ (m : MonthFile) (whole : Whole m) (ok : monthVerdict m ≡ accepted) where
-  none : NoneRefuses (monthChecks m)
+module _ (setting : Setting) (m : MonthFile) (whole : Whole m) (ok : monthVerdict setting m ≡ accepted) where
+  none : NoneRefuses (monthChecks setting m)
   unfolding monthVerdict
-  none = accepted-exactly (monthChecks m) .0 ok
+  none = accepted-exactly (monthChecks setting m) .0 ok
 
   pub accepted-is-judged : Judged m
   unfolding monthChecks
-  accepted-is-judged = record { whole = whole; W-right = none .0; fixed-right = none .1 .0; refixed-right = none .1 .1 .0 }
+  accepted-is-judged = record { whole = whole; W-right = none .1 .0; fixed-right = none .1 .1 .0; refixed-right = none .1 .1 .1 .0 }
 
   pub curve-in-range : (t : ℕ) → t < H m → curve m t ≤ greatestCurveNumber
   unfolding monthChecks
-  curve-in-range t b = curve-at-most m t (in-turn-exactly (H m) (curveVerdict m) .0 (none .1 .1 .1 .0) t b)
+  curve-in-range t b = curve-at-most m t (in-turn-exactly (H m) (curveVerdict m) .0 (none .1 .1 .1 .1 .0) t b)
 
   pub periodised-in-range : (t : ℕ) → t < H m → allPeriodised m t ≤ greatestPeriodised
   unfolding monthChecks
-  periodised-in-range t b = periodised-at-most m t (in-turn-exactly (H m) (periodisedVerdict m) .0 (none .1 .1 .1 .1 .1 .0) t b)
+  periodised-in-range t b = periodised-at-most m t (in-turn-exactly (H m) (periodisedVerdict m) .0 (none .1 .1 .1 .1 .1 .1 .0) t b)
 
   -- ITS AMOUNTS FIT 64 BITS: below 745 x 2,000,000,001 x 5,000,000 = 7.45 x 10^18
   pub month-amount-fits : (i : ℕ) → i < P m → natAbs (monthAmount m i) ≤ mostHours * (greatestDifference * greatestPrice)

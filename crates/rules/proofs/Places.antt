@@ -18,6 +18,7 @@ use Rattle.rules.specs.MonthFile.{MonthFile, nothingYet, H, P, due, reco
 use Rattle.rules.specs.Record.{Heading, Party, Reading, Record, heading, party, fixedHour, reading, price, refixedHour, end, bodyLength, known, fieldWidths}
 use Rattle.rules.specs.Record.{cutInto, kindAt, recordAt, inFile, headingInRange, checks}
 use Rattle.rules.specs.Refusals.{given, first}
+use Rattle.rules.specs.Setting.{Setting}
 use Rattle.rules.specs.WellFormed.{asParty, asReading}
 use Rattle.rules.specs.Words.{at}
 use Rattle.rules.proofs.Whole.{Counts, Sound, before-the-heading, both-pass, heading-facts, step, nothing-is-sound, went-on, closed-gives, of-the-right-length}
@@ -289,15 +290,15 @@ end-or-not r = go (isEnd r) refl
     go true e = inl e
     go false e = inr e
 
-read-on-placed : (file : List ℕ) (more : ℕ) (bytes : List ℕ) (n : ℕ) (m : MonthFile) (offset : ℕ) → drop offset file ≡ bytes → Sound m
-    → Placed file m offset → {m′ : MonthFile} → readOn more bytes n m ≡ given m′ → (o : ℕ) × Placed file m′ o
+read-on-placed : (setting : Setting) (file : List ℕ) (more : ℕ) (bytes : List ℕ) (n : ℕ) (m : MonthFile) (offset : ℕ) → drop offset file ≡ bytes → Sound m
+    → Placed file m offset → {m′ : MonthFile} → readOn setting more bytes n m ≡ given m′ → (o : ℕ) × Placed file m′ o
 unfolding readOn recordChecks kindAt at
-read-on-placed file zero bytes n m offset here s p e = absurd (given-not-refusal e)
-read-on-placed file (suc more) [] n m offset here s p e = absurd (given-not-refusal e)
-read-on-placed file (suc more) (kind ∷ body) n m offset here s p {m′} e =
+read-on-placed setting file zero bytes n m offset here s p e = absurd (given-not-refusal e)
+read-on-placed setting file (suc more) [] n m offset here s p e = absurd (given-not-refusal e)
+read-on-placed setting file (suc more) (kind ∷ body) n m offset here s p {m′} e =
     let r = recordAt (kind ∷ body) in
-    let on = went-on (first (recordChecks m n (kind ∷ body))) _ e in
-    let passed = accepted-exactly (recordChecks m n (kind ∷ body)) .0 (on .0) in
+    let on = went-on (first (recordChecks setting m n (kind ∷ body))) _ e in
+    let passed = accepted-exactly (recordChecks setting m n (kind ∷ body)) .0 (on .0) in
     let k : known kind ≡ true = unless-exactly (known kind) _ _ .0 (passed .0) in
     let b : 1 + bodyLength kind ≤ length (kind ∷ body) = leb-true (1 + bodyLength kind) (length (kind ∷ body)) (unless-exactly _ _ _ .0 (passed .1 .0)) in
     let d : due m r ≡ true = unless-exactly (due m r) _ _ .0 (passed .1 .1 .0) in
@@ -307,12 +308,12 @@ read-on-placed file (suc more) (kind ∷ body) n m offset here s p {m′} e =
     let gives : closed m (suc n) (drop (bodyLength kind) body) ≡ given m′ = rw z at (on .1) in
     (offset, subst (λ (x : MonthFile). Placed file x offset) (closed-gives m (suc n) (drop (bodyLength kind) body) gives) p))
     (λ (z : isEnd r ≡ false).
-    let gives : readOn more (drop (bodyLength kind) body) (suc n) (with m r) ≡ given m′ = rw z at (on .1) in
-    read-on-placed file more (drop (bodyLength kind) body) (suc n) (with m r) (offset + (1 + lengthOf r))
+    let gives : readOn setting more (drop (bodyLength kind) body) (suc n) (with m r) ≡ given m′ = rw z at (on .1) in
+    read-on-placed setting file more (drop (bodyLength kind) body) (suc n) (with m r) (offset + (1 + lengthOf r))
     (sym (bytes-after file offset kind body here k)) s′
     (place file m s offset p n r z d (passed .1 .1 .1) (here-stands file offset kind body here k b)) gives)
     (end-or-not r)
 
 -- THE RECORDS OF A FILE THAT IS READ STAND AT THEIR PLACES.
-pub what-is-read-is-placed : (file : List ℕ) {m : MonthFile} → readMonth file ≡ given m → (o : ℕ) × Placed file m o
-what-is-read-is-placed file e = read-on-placed file (length file) file 0 nothingYet 0 refl nothing-is-sound (nothing-is-placed file) (of-the-right-length file e .1)
+pub what-is-read-is-placed : (setting : Setting) (file : List ℕ) {m : MonthFile} → readMonth setting file ≡ given m → (o : ℕ) × Placed file m o
+what-is-read-is-placed setting file e = read-on-placed setting file (length file) file 0 nothingYet 0 refl nothing-is-sound (nothing-is-placed file) (of-the-right-length setting file e .1)

@@ -21,6 +21,7 @@ use Rattle.rules.specs.Record.{Record, heading, party, fixedHour, readin
 use Rattle.rules.specs.Record.{recordBytes, inFile, alone, headingInRange, hourInRange, checks, readAlone}
 use Rattle.rules.specs.ReadingRefused.{Passes, AllPass, withAll}
 use Rattle.rules.specs.Refusals.{Refusal, fileFault, Verdict, accepted, refused, Answer, given, refusal, unless, andThen, first, answer}
+use Rattle.rules.specs.Setting.{Setting}
 use Rattle.rules.specs.WellFormed.{Bytes, bytesOfAll}
 use Rattle.rules.specs.Words.{at, within, withinℤ, joined}
 use Rattle.rules.proofs.EachKind.{kind-known}
@@ -74,32 +75,32 @@ module _ (m : MonthFile) (s : Sound m) where
 -- ALL BYTES FROM A RECORD ON
 
 -- record number n and all after it: `readOn` with a bound that is enough
-abbrev pub readFrom : List ℕ → ℕ → MonthFile → Answer MonthFile
-readFrom bytes n m = readOn (length bytes) bytes n m
+abbrev pub readFrom : Setting → List ℕ → ℕ → MonthFile → Answer MonthFile
+readFrom setting bytes n m = readOn setting (length bytes) bytes n m
 
 -- what follows a record that none of its checks refuses, with the bytes that are left
-abbrev onFrom : Record → List ℕ → ℕ → MonthFile → Answer MonthFile
-onFrom r left n m = cond (isEnd r) (closed m (suc n) left) (readFrom left (suc n) (with m r))
+abbrev onFrom : Setting → Record → List ℕ → ℕ → MonthFile → Answer MonthFile
+onFrom setting r left n m = cond (isEnd r) (closed m (suc n) left) (readFrom setting left (suc n) (with m r))
 
-from-a-record : (kind : ℕ) (body : List ℕ) (n : ℕ) (m : MonthFile)
-    → readFrom (kind ∷ body) n m
-    ≡ onward (first (recordChecks m n (kind ∷ body))) (onFrom (recordAt (kind ∷ body)) (drop (bodyLength kind) body) n m)
+from-a-record : (setting : Setting) (kind : ℕ) (body : List ℕ) (n : ℕ) (m : MonthFile)
+    → readFrom setting (kind ∷ body) n m
+    ≡ onward (first (recordChecks setting m n (kind ∷ body))) (onFrom setting (recordAt (kind ∷ body)) (drop (bodyLength kind) body) n m)
 unfolding readOn
-from-a-record kind body n m =
+from-a-record setting kind body n m =
     let left : List ℕ = drop (bodyLength kind) body in
     let r : Record = recordAt (kind ∷ body) in
-    ap (λ (rest : Answer MonthFile). onward (first (recordChecks m n (kind ∷ body))) (cond (isEnd r) (closed m (suc n) left) rest))
-    (bound-is-enough (length body) (length left) left (suc n) (with m r) (omega (arith, length-drop (bodyLength kind) body)) (omega arith))
+    ap (λ (rest : Answer MonthFile). onward (first (recordChecks setting m n (kind ∷ body))) (cond (isEnd r) (closed m (suc n) left) rest))
+    (bound-is-enough setting (length body) (length left) left (suc n) (with m r) (omega (arith, length-drop (bodyLength kind) body)) (omega arith))
 
 went-through : (v : Verdict) (rest : Answer MonthFile) → v ≡ accepted → onward v rest ≡ rest
 unfolding onward
 went-through v rest e = rw e
 
 -- a record without fault, and all that follows it
-one-record : (m : MonthFile) → Sound m → (n : ℕ) (r : Record) → due m r ≡ true → NoneRefuses (checks (inFile m n) r) → CountHeld r → (rest : List ℕ)
-    → readFrom (recordBytes r ++ rest) n m ≡ onFrom r rest n m
+one-record : (setting : Setting) (m : MonthFile) → Sound m → (n : ℕ) (r : Record) → due m r ≡ true → NoneRefuses (checks (inFile m n) r) → CountHeld r → (rest : List ℕ)
+    → readFrom setting (recordBytes r ++ rest) n m ≡ onFrom setting r rest n m
 unfolding recordBytes recordChecks
-one-record m s n r d c held rest =
+one-record setting m s n r d c held rest =
     let body : List ℕ = joined (inWidths (fieldWidths (kindOf r)) (fieldsOf r)) in
     let none : NoneRefuses (checks alone r) = alone-too m s n r c in
     let size : length (recordBytes r) ≡ 1 + bodyLength (kindOf r) = record-length r (accepted-exactly (checks alone r) .1 none) in
@@ -108,13 +109,13 @@ one-record m s n r d c held rest =
     le-leb (1 + bodyLength (kindOf r)) (length (recordBytes r ++ rest)) (omega (arith, size, length-append (recordBytes r) rest)) in
     let known-kind : known (kindAt (recordBytes r ++ rest)) ≡ true = rw (kind-back r rest) (kind-known r) in
     let all-there : leb (1 + bodyLength (kindAt (recordBytes r ++ rest))) (length (recordBytes r ++ rest)) ≡ true = rw (kind-back r rest) fits in
-    let passes : NoneRefuses (recordChecks m n (recordBytes r ++ rest)) = (
+    let passes : NoneRefuses (recordChecks setting m n (recordBytes r ++ rest)) = (
       unless-exactly _ _ _ .1 known-kind,
       (unless-exactly _ _ _ .1 all-there, (unless-exactly _ _ _ .1 (rw is d), rw is c)),
     ) in
-    from-a-record (kindOf r) (body ++ rest) n m
-    ∙ went-through _ _ (accepted-exactly (recordChecks m n (recordBytes r ++ rest)) .1 passes)
-    ∙ ap₂ (λ (x : Record) (left : List ℕ). onFrom x left n m) is (drop-at body rest (bodyLength (kindOf r)) (omega arith))
+    from-a-record setting (kindOf r) (body ++ rest) n m
+    ∙ went-through _ _ (accepted-exactly (recordChecks setting m n (recordBytes r ++ rest)) .1 passes)
+    ∙ ap₂ (λ (x : Record) (left : List ℕ). onFrom setting x left n m) is (drop-at body rest (bodyLength (kindOf r)) (omega arith))
 
 -- RECORDS THAT PASS
 
@@ -129,18 +130,18 @@ sound-after [] m s n all = s
 sound-after (r ∷ records) m s n all = sound-after records (with m r) (step m s n r (all .0 .is-due) (all .0 .none-refuses)) (suc n) (all .1)
 
 -- READS THROUGH: records that pass are read one after the other, and the reading goes on with what follows
-pub reads-through : (records : List Record) (rest : List ℕ) (m : MonthFile) → Sound m → (n : ℕ) → AllPass m n records
-    → readFrom (bytesOfAll records ++ rest) n m ≡ readFrom rest (n + length records) (withAll m records)
+pub reads-through : (setting : Setting) (records : List Record) (rest : List ℕ) (m : MonthFile) → Sound m → (n : ℕ) → AllPass m n records
+    → readFrom setting (bytesOfAll records ++ rest) n m ≡ readFrom setting rest (n + length records) (withAll m records)
 unfolding bytesOfAll withAll
-reads-through [] rest m s n all = ap (λ (k : ℕ). readFrom rest k m) (omega arith)
-reads-through (r ∷ records) rest m s n all =
+reads-through setting [] rest m s n all = ap (λ (k : ℕ). readFrom setting rest k m) (omega arith)
+reads-through setting (r ∷ records) rest m s n all =
     let more : List ℕ = bytesOfAll records ++ rest in
     let p : Passes m n r = all .0 in
-    ap (λ (bytes : List ℕ). readFrom bytes n m) (append-assoc (recordBytes r) (bytesOfAll records) rest)
-    ∙ one-record m s n r (p .is-due) (p .none-refuses) (no-count r (p .not-the-end)) more
-    ∙ ap (λ (ends : Bool). cond ends (closed m (suc n) more) (readFrom more (suc n) (with m r))) (p .not-the-end)
-    ∙ reads-through records rest (with m r) (step m s n r (p .is-due) (p .none-refuses)) (suc n) (all .1)
-    ∙ ap (λ (k : ℕ). readFrom rest k (withAll (with m r) records)) (omega arith)
+    ap (λ (bytes : List ℕ). readFrom setting bytes n m) (append-assoc (recordBytes r) (bytesOfAll records) rest)
+    ∙ one-record setting m s n r (p .is-due) (p .none-refuses) (no-count r (p .not-the-end)) more
+    ∙ ap (λ (ends : Bool). cond ends (closed m (suc n) more) (readFrom setting more (suc n) (with m r))) (p .not-the-end)
+    ∙ reads-through setting records rest (with m r) (step m s n r (p .is-due) (p .none-refuses)) (suc n) (all .1)
+    ∙ ap (λ (k : ℕ). readFrom setting rest k (withAll (with m r) records)) (omega arith)
 
 -- every record has a byte
 a-byte-each : (records : List Record) → length records ≤ length (bytesOfAll records)
@@ -149,59 +150,59 @@ a-byte-each [] = omega arith
 a-byte-each (r ∷ records) = omega (arith, a-byte-each records, length-append (recordBytes r) (bytesOfAll records))
 
 -- WHERE A READING STOPS, once n records have passed: nothing is left; a check refuses; or the right end stands there, whatever follows it
-pub data Stop (m : MonthFile) (n : ℕ) (rest : List ℕ) : Type 0 where
-  nothing-left : rest ≡ [] → Stop m n rest
-  check-refuses : 1 ≤ length rest → (r : Refusal) (place : ℕ) → first (recordChecks m n rest) ≡ refused r place → Stop m n rest
-  right-end : due m (end n) ≡ true → (after : List ℕ) → rest ≡ recordBytes (end n) ++ after → Stop m n rest
+pub data Stop (setting : Setting) (m : MonthFile) (n : ℕ) (rest : List ℕ) : Type 0 where
+  nothing-left : rest ≡ [] → Stop setting m n rest
+  check-refuses : 1 ≤ length rest → (r : Refusal) (place : ℕ) → first (recordChecks setting m n rest) ≡ refused r place → Stop setting m n rest
+  right-end : due m (end n) ≡ true → (after : List ℕ) → rest ≡ recordBytes (end n) ++ after → Stop setting m n rest
 
 -- what the reading answers there
-abbrev pub answerAt : (m : MonthFile) (n : ℕ) (rest : List ℕ) → Stop m n rest → Answer MonthFile
-answerAt m n rest (nothing-left e) = refusal fileFault n
-answerAt m n rest (check-refuses some r place e) = refusal r place
-answerAt m n rest (right-end d after e) = closed m (suc n) after
+abbrev pub answerAt : (setting : Setting) (m : MonthFile) (n : ℕ) (rest : List ℕ) → Stop setting m n rest → Answer MonthFile
+answerAt setting m n rest (nothing-left e) = refusal fileFault n
+answerAt setting m n rest (check-refuses some r place e) = refusal r place
+answerAt setting m n rest (right-end d after e) = closed m (suc n) after
 
-refuses-here : (m : MonthFile) (n : ℕ) (rest : List ℕ) → 1 ≤ length rest → (r : Refusal) (place : ℕ) → first (recordChecks m n rest) ≡ refused r place
-    → readFrom rest n m ≡ refusal r place
+refuses-here : (setting : Setting) (m : MonthFile) (n : ℕ) (rest : List ℕ) → 1 ≤ length rest → (r : Refusal) (place : ℕ) → first (recordChecks setting m n rest) ≡ refused r place
+    → readFrom setting rest n m ≡ refusal r place
 unfolding onward
-refuses-here m n [] some r place e = absurd (omega arith)
-refuses-here m n (kind ∷ body) some r place e =
-    from-a-record kind body n m ∙ ap (λ (v : Verdict). onward v (onFrom (recordAt (kind ∷ body)) (drop (bodyLength kind) body) n m)) e
+refuses-here setting m n [] some r place e = absurd (omega arith)
+refuses-here setting m n (kind ∷ body) some r place e =
+    from-a-record setting kind body n m ∙ ap (λ (v : Verdict). onward v (onFrom setting (recordAt (kind ∷ body)) (drop (bodyLength kind) body) n m)) e
 
 end-held : (n : ℕ) → n < 256 ^ 4 → CountHeld (end n)
 end-held n b count is = let same : n ≡ count = cc in omega arith
 
-stops-so : (m : MonthFile) → Sound m → (n : ℕ) → n < 256 ^ 4 → (rest : List ℕ) (stop : Stop m n rest) → readFrom rest n m ≡ answerAt m n rest stop
+stops-so : (setting : Setting) (m : MonthFile) → Sound m → (n : ℕ) → n < 256 ^ 4 → (rest : List ℕ) (stop : Stop setting m n rest) → readFrom setting rest n m ≡ answerAt setting m n rest stop
 unfolding readOn isEnd checks
-stops-so m s n b rest (nothing-left e) = ap (λ (bytes : List ℕ). readFrom bytes n m) e
-stops-so m s n b rest (check-refuses some r place e) = refuses-here m n rest some r place e
-stops-so m s n b rest (right-end d after e) =
-    ap (λ (bytes : List ℕ). readFrom bytes n m) e
-    ∙ one-record m s n (end n) d (unless-exactly (eqb n n) _ _ .1 (eq-eqb n n refl), tt) (end-held n b) after
+stops-so setting m s n b rest (nothing-left e) = ap (λ (bytes : List ℕ). readFrom setting bytes n m) e
+stops-so setting m s n b rest (check-refuses some r place e) = refuses-here setting m n rest some r place e
+stops-so setting m s n b rest (right-end d after e) =
+    ap (λ (bytes : List ℕ). readFrom setting bytes n m) e
+    ∙ one-record setting m s n (end n) d (unless-exactly (eqb n n) _ _ .1 (eq-eqb n n refl), tt) (end-held n b) after
 
 -- THE COURSE OF A READING: any bytes are those of records that pass, and of a rest at which it stops
-pub record Course (m : MonthFile) (n : ℕ) (bytes : List ℕ) : Type 0 where
+pub record Course (setting : Setting) (m : MonthFile) (n : ℕ) (bytes : List ℕ) : Type 0 where
   pub passed : List Record
   pub rest : List ℕ
   pub split : bytes ≡ bytesOfAll passed ++ rest
   pub all-pass : AllPass m n passed
-  pub stop : Stop (withAll m passed) (n + length passed) rest
+  pub stop : Stop setting (withAll m passed) (n + length passed) rest
 
 -- the reading stops where it stands
-stopped : {m : MonthFile} {n : ℕ} {bytes : List ℕ} → Stop m n bytes → Course m n bytes
+stopped : {setting : Setting} {m : MonthFile} {n : ℕ} {bytes : List ℕ} → Stop setting m n bytes → Course setting m n bytes
 unfolding bytesOfAll withAll
-stopped {m} {n} {bytes} at-once =
-    record { passed = []; rest = bytes; split = refl; all-pass = tt; stop = subst (λ (k : ℕ). Stop m k bytes) (omega arith) at-once }
+stopped {setting} {m} {n} {bytes} at-once =
+    record { passed = []; rest = bytes; split = refl; all-pass = tt; stop = subst (λ (k : ℕ). Stop setting m k bytes) (omega arith) at-once }
 
 -- or one more record passes
-one-passes : (m : MonthFile) (n : ℕ) (bytes : List ℕ) (r : Record) (left : List ℕ) → bytes ≡ recordBytes r ++ left → Passes m n r → Course (with m r) (suc n) left → Course m n bytes
+one-passes : (setting : Setting) (m : MonthFile) (n : ℕ) (bytes : List ℕ) (r : Record) (left : List ℕ) → bytes ≡ recordBytes r ++ left → Passes m n r → Course setting (with m r) (suc n) left → Course setting m n bytes
 unfolding bytesOfAll withAll
-one-passes m n bytes r left e p next =
+one-passes setting m n bytes r left e p next =
     record {
       passed = r ∷ next .passed;
       rest = next .rest;
       split = e ∙ ap (λ (l : List ℕ). recordBytes r ++ l) (next .split) ∙ sym (append-assoc (recordBytes r) (bytesOfAll (next .passed)) (next .rest));
       all-pass = (p, next .all-pass);
-      stop = subst (λ (k : ℕ). Stop (withAll (with m r) (next .passed)) k (next .rest)) (omega arith) (next .stop);
+      stop = subst (λ (k : ℕ). Stop setting (withAll (with m r) (next .passed)) k (next .rest)) (omega arith) (next .stop);
     }
 
 -- a record that stands at the start of some bytes, and none of whose checks refuses
@@ -215,13 +216,13 @@ given-alone : (bytes : List ℕ) → 1 ≤ length bytes → known (kindAt bytes)
 unfolding readAlone first andThen unless answer
 given-alone bytes some known-kind fits none = rw (le-leb 1 (length bytes) some, known-kind, fits, accepted-exactly (checks alone (recordAt bytes)) .1 none)
 
-stands : (m : MonthFile) → Sound m → (n kind : ℕ) (body : List ℕ) → Bytes (kind ∷ body) → first (recordChecks m n (kind ∷ body)) ≡ accepted
+stands : (setting : Setting) (m : MonthFile) → Sound m → (n kind : ℕ) (body : List ℕ) → Bytes (kind ∷ body) → first (recordChecks setting m n (kind ∷ body)) ≡ accepted
     → Stands m n (kind ∷ body) (recordAt (kind ∷ body)) (drop (bodyLength kind) body)
 unfolding recordChecks kindAt at
-stands m s n kind body small e =
+stands setting m s n kind body small e =
     let bytes : List ℕ = kind ∷ body in
     let r : Record = recordAt bytes in
-    let passed = accepted-exactly (recordChecks m n bytes) .0 e in
+    let passed = accepted-exactly (recordChecks setting m n bytes) .0 e in
     let known-kind : known kind ≡ true = unless-exactly (known kind) _ _ .0 (passed .0) in
     let fits : leb (1 + bodyLength kind) (length bytes) ≡ true = unless-exactly _ _ _ .0 (passed .1 .0) in
     let same : recordBytes r ≡ take (1 + bodyLength kind) bytes = written-of-read bytes r small (given-alone bytes (omega arith) known-kind fits (alone-too m s n r (passed .1 .1 .1))) in
@@ -234,64 +235,64 @@ stands m s n kind body small e =
     }
 
 -- an end that stands rightly has the number of records before it
-the-end-here : (m : MonthFile) (n : ℕ) (bytes : List ℕ) (r : Record) (left : List ℕ) → isEnd r ≡ true → Stands m n bytes r left → Stop m n bytes
+the-end-here : (setting : Setting) (m : MonthFile) (n : ℕ) (bytes : List ℕ) (r : Record) (left : List ℕ) → isEnd r ≡ true → Stands m n bytes r left → Stop setting m n bytes
 unfolding isEnd checks
-the-end-here m n bytes (end count) left e here =
+the-end-here setting m n bytes (end count) left e here =
     let same : count ≡ n = eqb-true count n (unless-exactly (eqb count n) _ _ .0 (here .none-refuses .0)) in
     right-end (subst (λ (k : ℕ). due m (end k) ≡ true) same (here .is-due)) left (here .bytes-are ∙ ap (λ (k : ℕ). recordBytes (end k) ++ left) same)
-the-end-here m n bytes (heading h) left e here = absurd (true-not-false (sym e))
-the-end-here m n bytes (party p) left e here = absurd (true-not-false (sym e))
-the-end-here m n bytes (fixedHour hour f) left e here = absurd (true-not-false (sym e))
-the-end-here m n bytes (reading r) left e here = absurd (true-not-false (sym e))
-the-end-here m n bytes (price hour p) left e here = absurd (true-not-false (sym e))
-the-end-here m n bytes (refixedHour hour f) left e here = absurd (true-not-false (sym e))
+the-end-here setting m n bytes (heading h) left e here = absurd (true-not-false (sym e))
+the-end-here setting m n bytes (party p) left e here = absurd (true-not-false (sym e))
+the-end-here setting m n bytes (fixedHour hour f) left e here = absurd (true-not-false (sym e))
+the-end-here setting m n bytes (reading r) left e here = absurd (true-not-false (sym e))
+the-end-here setting m n bytes (price hour p) left e here = absurd (true-not-false (sym e))
+the-end-here setting m n bytes (refixedHour hour f) left e here = absurd (true-not-false (sym e))
 
 -- by the verdict on the record that stands first, and by whether it is the end
-module _ (m : MonthFile) (s : Sound m) (n kind : ℕ) (body : List ℕ) (small : Bytes (kind ∷ body)) where
+module _ (setting : Setting) (m : MonthFile) (s : Sound m) (n kind : ℕ) (body : List ℕ) (small : Bytes (kind ∷ body)) where
   abbrev here : Record
   here = recordAt (kind ∷ body)
 
   abbrev left : List ℕ
   left = drop (bodyLength kind) body
 
-  module _ (next : Sound (with m here) → Course (with m here) (suc n) left) where
-    by-its-kind : (ends : Bool) → isEnd here ≡ ends → Stands m n (kind ∷ body) here left → Course m n (kind ∷ body)
-    by-its-kind true e stands-here = stopped (the-end-here m n (kind ∷ body) here left e stands-here)
+  module _ (next : Sound (with m here) → Course setting (with m here) (suc n) left) where
+    by-its-kind : (ends : Bool) → isEnd here ≡ ends → Stands m n (kind ∷ body) here left → Course setting m n (kind ∷ body)
+    by-its-kind true e stands-here = stopped (the-end-here setting m n (kind ∷ body) here left e stands-here)
     by-its-kind false e stands-here =
-        one-passes m n (kind ∷ body) here left (stands-here .bytes-are)
+        one-passes setting m n (kind ∷ body) here left (stands-here .bytes-are)
         (record { not-the-end = e; is-due = stands-here .is-due; none-refuses = stands-here .none-refuses })
         (next (step m s n here (stands-here .is-due) (stands-here .none-refuses)))
 
-    by-its-verdict : (v : Verdict) → first (recordChecks m n (kind ∷ body)) ≡ v → Course m n (kind ∷ body)
-    by-its-verdict accepted e = by-its-kind (isEnd here) refl (stands m s n kind body small e)
+    by-its-verdict : (v : Verdict) → first (recordChecks setting m n (kind ∷ body)) ≡ v → Course setting m n (kind ∷ body)
+    by-its-verdict accepted e = by-its-kind (isEnd here) refl (stands setting m s n kind body small e)
     by-its-verdict (refused why place) e = stopped (check-refuses (omega arith) why place e)
 
-course : (more : ℕ) (bytes : List ℕ) → length bytes ≤ more → Bytes bytes → (m : MonthFile) → Sound m → (n : ℕ) → Course m n bytes
-course zero [] enough small m s n = stopped (nothing-left refl)
-course zero (kind ∷ body) enough small m s n = absurd (omega arith)
-course (suc more) [] enough small m s n = stopped (nothing-left refl)
-course (suc more) (kind ∷ body) enough small m s n =
-    by-its-verdict m s n kind body small
+course : (setting : Setting) (more : ℕ) (bytes : List ℕ) → length bytes ≤ more → Bytes bytes → (m : MonthFile) → Sound m → (n : ℕ) → Course setting m n bytes
+course setting zero [] enough small m s n = stopped (nothing-left refl)
+course setting zero (kind ∷ body) enough small m s n = absurd (omega arith)
+course setting (suc more) [] enough small m s n = stopped (nothing-left refl)
+course setting (suc more) (kind ∷ body) enough small m s n =
+    by-its-verdict setting m s n kind body small
     (λ s′.
-    course more (drop (bodyLength kind) body) (omega (arith, length-drop (bodyLength kind) body)) (bytes-drop (suc (bodyLength kind)) (kind ∷ body) small)
+    course setting more (drop (bodyLength kind) body) (omega (arith, length-drop (bodyLength kind) body)) (bytes-drop (suc (bodyLength kind)) (kind ∷ body) small)
     (with m (recordAt (kind ∷ body)))
     s′
     (suc n))
-    (first (recordChecks m n (kind ∷ body)))
+    (first (recordChecks setting m n (kind ∷ body)))
     refl
 
 -- THE COURSE OF A WHOLE FILE of the right length, and what is answered where it stops
-pub file-course : (file : List ℕ) → Bytes file → Course nothingYet 0 file
-file-course file small = course (length file) file (omega arith) small nothingYet nothing-is-sound 0
+pub file-course : (setting : Setting) (file : List ℕ) → Bytes file → Course setting nothingYet 0 file
+file-course setting file small = course setting (length file) file (omega arith) small nothingYet nothing-is-sound 0
 
-pub answer-of-course : (file : List ℕ) → within 1 longestFile (length file) ≡ true → (c : Course nothingYet 0 file)
-    → readMonth file ≡ answerAt (withAll nothingYet (c .passed)) (0 + length (c .passed)) (c .rest) (c .stop)
+pub answer-of-course : (setting : Setting) (file : List ℕ) → within 1 longestFile (length file) ≡ true → (c : Course setting nothingYet 0 file)
+    → readMonth setting file ≡ answerAt setting (withAll nothingYet (c .passed)) (0 + length (c .passed)) (c .rest) (c .stop)
 unfolding readMonth
-answer-of-course file fits c =
+answer-of-course setting file fits c =
     let sound : Sound (withAll nothingYet (c .passed)) = sound-after (c .passed) nothingYet nothing-is-sound 0 (c .all-pass) in
     let few : length (c .passed) ≤ length file = omega (arith, a-byte-each (c .passed), ap length (c .split), length-append (bytesOfAll (c .passed)) (c .rest)) in
     let short : length file ≤ longestFile = within-is 1 longestFile (length file) fits .1 in
-    ap (λ (t : Bool). cond t (readFrom file 0 nothingYet) (refusal fileFault 0)) fits
-    ∙ ap (λ (bytes : List ℕ). readFrom bytes 0 nothingYet) (c .split)
-    ∙ reads-through (c .passed) (c .rest) nothingYet nothing-is-sound 0 (c .all-pass)
-    ∙ stops-so (withAll nothingYet (c .passed)) sound (0 + length (c .passed)) (omega arith) (c .rest) (c .stop)
+    ap (λ (t : Bool). cond t (readFrom setting file 0 nothingYet) (refusal fileFault 0)) fits
+    ∙ ap (λ (bytes : List ℕ). readFrom setting bytes 0 nothingYet) (c .split)
+    ∙ reads-through setting (c .passed) (c .rest) nothingYet nothing-is-sound 0 (c .all-pass)
+    ∙ stops-so setting (withAll nothingYet (c .passed)) sound (0 + length (c .passed)) (omega arith) (c .rest) (c .stop)

@@ -13,6 +13,7 @@ use Rattle.rules.specs.MonthFile.{MonthFile, H, P}
 use Rattle.rules.specs.Periodised.{periodisedFigure}
 use Rattle.rules.specs.Record.{Reading}
 use Rattle.rules.specs.Refusals.{accepted}
+use Rattle.rules.specs.Setting.{Setting}
 use Rattle.rules.specs.Words.{sum}
 use Rattle.rules.proofs.Periodised.{figures-add-up-to-E, nothing-over-nothing}
 use Rattle.rules.proofs.Refusals.{accepted-exactly, in-turn-exactly, unless-exactly}
@@ -87,8 +88,8 @@ module _ (m : MonthFile) (whole : Whole m) (followed : (j : ℕ) → j < length 
       sym (sum-swap (length (m .readings)) (H m) (λ t j. figureFor m t i j)) ∙ sum-cong (length (m .readings)) (of-one i)
 
 -- and so it is of every accepted month
-pub accepted-month-of-readings : (m : MonthFile) → Whole m → monthVerdict m ≡ accepted → (i : ℕ) → monthPeriodised m i ≡ readEnergy m i
+pub accepted-month-of-readings : (setting : Setting) (m : MonthFile) → Whole m → monthVerdict setting m ≡ accepted → (i : ℕ) → monthPeriodised m i ≡ readEnergy m i
 unfolding monthVerdict monthChecks
-accepted-month-of-readings m whole ok =
+accepted-month-of-readings setting m whole ok =
     periodised-of-readings m whole
-    (in-turn-exactly (length (m .readings)) (readingVerdict m) .0 (accepted-exactly (monthChecks m) .0 ok .1 .1 .1 .1 .0))
+    (in-turn-exactly (length (m .readings)) (readingVerdict m) .0 (accepted-exactly (monthChecks setting m) .0 ok .1 .1 .1 .1 .1 .0))

@@ -14,6 +14,7 @@ use Rattle.rules.specs.MonthFile.{MonthFile, nothingYet, H, due, readMon
 use Rattle.rules.specs.Record.{Record, end, recordBytes}
 use Rattle.rules.specs.ReadingRefused.{AllPass, withAll}
 use Rattle.rules.specs.Refusals.{given}
+use Rattle.rules.specs.Setting.{Setting}
 use Rattle.rules.specs.WellFormed.{Bytes, recordsOf, bytesOfAll, fileOf, WellFormed}
 use Rattle.rules.specs.Words.{within}
 use Rattle.rules.proofs.MonthRecords.{records-are, Through, hours-there, whole-month-passes}
@@ -22,9 +23,9 @@ use Rattle.rules.proofs.Refusals.{given-not-refusal}
 use Rattle.rules.proofs.Whole.{both-pass, within-is, of-the-right-length, what-is-read-is-whole}
 
 -- A WELL-FORMED FILE IS READ, as the month that it is the file of
-pub well-formed-is-read : (m : MonthFile) → WellFormed m → readMonth (fileOf m) ≡ given m
+pub well-formed-is-read : (setting : Setting) (m : MonthFile) → WellFormed m → readMonth setting (fileOf m) ≡ given m
 unfolding fileOf withAll within due H closed recordBytes
-well-formed-is-read m w =
+well-formed-is-read setting m w =
     let records : List Record = recordsOf m in
     let n : ℕ = length records in
     let t : Through nothingYet records m = whole-month-passes m (w .whole) in
@@ -32,7 +33,7 @@ well-formed-is-read m w =
     let fits : within 1 longestFile (length (fileOf m)) ≡ true = rw (le-leb 1 (length (fileOf m)) (omega arith), le-leb (length (fileOf m)) longestFile (w .not-too-long)) in
     let is-due : due m (end (0 + n)) ≡ true = rw (hours-there m (w .whole), eq-eqb (length (m .prices)) (H m) (w .whole .all-prices)) in
     let the-end : recordBytes (end n) ≡ recordBytes (end (0 + n)) ++ [] = ap (λ (k : ℕ). recordBytes (end k)) (omega arith) ∙ sym (append-nil (recordBytes (end (0 + n)))) in
-    let c : Course nothingYet 0 (fileOf m) =
+    let c : Course setting nothingYet 0 (fileOf m) =
     record {
       passed = records;
       rest = recordBytes (end n);
@@ -40,7 +41,7 @@ well-formed-is-read m w =
       all-pass = t .pass 0;
       stop = right-end (subst (λ (x : MonthFile). due x (end (0 + n)) ≡ true) (sym (t .gives)) is-due) [] the-end;
     } in
-    answer-of-course (fileOf m) fits c ∙ ap given (t .gives)
+    answer-of-course setting (fileOf m) fits c ∙ ap given (t .gives)
 
 -- WHAT IS READ IS WELL FORMED, and its bytes are those of its records
 
@@ -50,29 +51,29 @@ unfolding due
 headed m n d = leb-true 1 (H m) (both-pass (leb 1 (H m)) (eqb (length (m .prices)) (H m)) d .0)
 
 -- a reading that gives a month has stopped at the right end, with nothing after it
-at-the-end : {m : MonthFile} (records : List Record) (n : ℕ) (rest : List ℕ) (stop : Stop (withAll nothingYet records) n rest)
+at-the-end : {setting : Setting} {m : MonthFile} (records : List Record) (n : ℕ) (rest : List ℕ) (stop : Stop setting (withAll nothingYet records) n rest)
     → n ≡ length records
     → AllPass nothingYet 0 records
-    → answerAt (withAll nothingYet records) n rest stop ≡ given m
+    → answerAt setting (withAll nothingYet records) n rest stop ≡ given m
     → bytesOfAll records ++ rest ≡ fileOf m
 unfolding closed fileOf
 at-the-end records n rest (nothing-left e) count all is = absurd (given-not-refusal is)
 at-the-end records n rest (check-refuses some r place e) count all is = absurd (given-not-refusal is)
 at-the-end records n rest (right-end d (byte ∷ bytes) e) count all is = absurd (given-not-refusal is)
-at-the-end {m} records n rest (right-end d [] e) count all is =
+at-the-end {m = m} records n rest (right-end d [] e) count all is =
     let month : withAll nothingYet records ≡ m = cc in
     let same : records ≡ recordsOf m = sym (records-are records all (headed (withAll nothingYet records) n d)) ∙ ap recordsOf month in
     ap₂ (λ (x : List Record) (y : List ℕ). bytesOfAll x ++ y) same (e ∙ append-nil (recordBytes (end n)) ∙ ap (λ (k : ℕ). recordBytes (end k)) (count ∙ ap length same))
 
-pub what-is-read-is-well-formed : (file : List ℕ) (m : MonthFile) → Bytes file → readMonth file ≡ given m → WellFormed m × (file ≡ fileOf m)
-what-is-read-is-well-formed file m small is =
-    let fits : within 1 longestFile (length file) ≡ true = of-the-right-length file is .0 in
-    let c : Course nothingYet 0 file = file-course file small in
+pub what-is-read-is-well-formed : (setting : Setting) (file : List ℕ) (m : MonthFile) → Bytes file → readMonth setting file ≡ given m → WellFormed m × (file ≡ fileOf m)
+what-is-read-is-well-formed setting file m small is =
+    let fits : within 1 longestFile (length file) ≡ true = of-the-right-length setting file is .0 in
+    let c : Course setting nothingYet 0 file = file-course setting file small in
     let same : file ≡ fileOf m =
-    c .split ∙ at-the-end (c .passed) (0 + length (c .passed)) (c .rest) (c .stop) (omega arith) (c .all-pass) (sym (answer-of-course file fits c) ∙ is) in
+    c .split ∙ at-the-end (c .passed) (0 + length (c .passed)) (c .rest) (c .stop) (omega arith) (c .all-pass) (sym (answer-of-course setting file fits c) ∙ is) in
     let short : length file ≤ longestFile = within-is 1 longestFile (length file) fits .1 in
-    (record { whole = what-is-read-is-whole file is; not-too-long = subst (λ (bytes : List ℕ). length bytes ≤ longestFile) same short }, same)
+    (record { whole = what-is-read-is-whole setting file is; not-too-long = subst (λ (bytes : List ℕ). length bytes ≤ longestFile) same short }, same)
 
 -- ACCEPTED EXACTLY WHEN WELL FORMED
-pub read-exactly : (file : List ℕ) (m : MonthFile) → Bytes file → (readMonth file ≡ given m) ↔ (WellFormed m × (file ≡ fileOf m))
-read-exactly file m small = (what-is-read-is-well-formed file m small, λ h. ap readMonth (h .1) ∙ well-formed-is-read m (h .0))
+pub read-exactly : (setting : Setting) (file : List ℕ) (m : MonthFile) → Bytes file → (readMonth setting file ≡ given m) ↔ (WellFormed m × (file ≡ fileOf m))
+read-exactly setting file m small = (what-is-read-is-well-formed setting file m small, λ h. ap (readMonth setting) (h .1) ∙ well-formed-is-read setting m (h .0))

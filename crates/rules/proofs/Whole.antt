@@ -19,6 +19,7 @@ use Rattle.rules.specs.MonthFile.{MonthFile, nothingYet, H, P, due, rise
 use Rattle.rules.specs.Record.{Heading, Party, Reading, Record, heading, party, fixedHour, reading, price, refixedHour, end, bodyLength, recordAt}
 use Rattle.rules.specs.Record.{inFile, headingInRange, hourInRange, checks}
 use Rattle.rules.specs.Refusals.{Refusal, fileFault, Verdict, accepted, refused, Answer, given, refusal, first}
+use Rattle.rules.specs.Setting.{Setting}
 use Rattle.rules.specs.Words.{within, withinℤ}
 use Rattle.rules.proofs.Refusals.{accepted-exactly, unless-exactly, given-not-refusal}
 pub use Rattle.rules.specs.WellFormed.{Every, PartyRight, FlowsRight, PriceRight, ReadingRight, HeadingRight, Below, Rising, Whole}
@@ -451,18 +452,18 @@ past-one m s (price hour z) n after rest d s′ ih e = ih s′ e
 past-one m s (refixedHour hour f) n after rest d s′ ih e = ih s′ e
 past-one m s (end count) n after rest d s′ ih e = subst Whole (closed-gives m n after e) (at-the-end m s count d)
 
-read-on-whole : (more : ℕ) (bytes : List ℕ) (n : ℕ) (m : MonthFile) → Sound m → {m′ : MonthFile} → readOn more bytes n m ≡ given m′ → Whole m′
+read-on-whole : (setting : Setting) (more : ℕ) (bytes : List ℕ) (n : ℕ) (m : MonthFile) → Sound m → {m′ : MonthFile} → readOn setting more bytes n m ≡ given m′ → Whole m′
 unfolding readOn recordChecks
-read-on-whole zero bytes n m s e = absurd (given-not-refusal e)
-read-on-whole (suc more) [] n m s e = absurd (given-not-refusal e)
-read-on-whole (suc more) (kind ∷ body) n m s {m′} e =
+read-on-whole setting zero bytes n m s e = absurd (given-not-refusal e)
+read-on-whole setting (suc more) [] n m s e = absurd (given-not-refusal e)
+read-on-whole setting (suc more) (kind ∷ body) n m s {m′} e =
     let r = recordAt (kind ∷ body) in
-    let on = went-on (first (recordChecks m n (kind ∷ body))) _ e in
-    let passed = accepted-exactly (recordChecks m n (kind ∷ body)) .0 (on .0) in
+    let on = went-on (first (recordChecks setting m n (kind ∷ body))) _ e in
+    let passed = accepted-exactly (recordChecks setting m n (kind ∷ body)) .0 (on .0) in
     let d : due m r ≡ true = unless-exactly (due m r) _ _ .0 (passed .1 .1 .0) in
     let s′ : Sound (with m r) = step m s n r d (passed .1 .1 .1) in
-    past-one m s r (suc n) (drop (bodyLength kind) body) (readOn more (drop (bodyLength kind) body) (suc n) (with m r)) d s′
-    (λ s″. read-on-whole more (drop (bodyLength kind) body) (suc n) (with m r) s″)
+    past-one m s r (suc n) (drop (bodyLength kind) body) (readOn setting more (drop (bodyLength kind) body) (suc n) (with m r)) d s′
+    (λ s″. read-on-whole setting more (drop (bodyLength kind) body) (suc n) (with m r) s″)
     (on .1)
 
 length-passed : (fits : Bool) (read : Answer MonthFile) {m : MonthFile} → cond fits read (refusal fileFault 0) ≡ given m → (fits ≡ true) × (read ≡ given m)
@@ -470,27 +471,27 @@ length-passed true read e = (refl, e)
 length-passed false read e = absurd (given-not-refusal e)
 
 -- a file that is read has the right length, and is read record by record
-pub of-the-right-length : (bytes : List ℕ) {m : MonthFile} → readMonth bytes ≡ given m
-    → (within 1 longestFile (length bytes) ≡ true) × (readOn (length bytes) bytes 0 nothingYet ≡ given m)
+pub of-the-right-length : (setting : Setting) (bytes : List ℕ) {m : MonthFile} → readMonth setting bytes ≡ given m
+    → (within 1 longestFile (length bytes) ≡ true) × (readOn setting (length bytes) bytes 0 nothingYet ≡ given m)
 unfolding readMonth
-of-the-right-length bytes e = length-passed (within 1 longestFile (length bytes)) (readOn (length bytes) bytes 0 nothingYet) e
+of-the-right-length setting bytes e = length-passed (within 1 longestFile (length bytes)) (readOn setting (length bytes) bytes 0 nothingYet) e
 
 -- WHAT IS READ IS WHOLE.
-pub what-is-read-is-whole : (bytes : List ℕ) {m : MonthFile} → readMonth bytes ≡ given m → Whole m
-what-is-read-is-whole bytes e = read-on-whole (length bytes) bytes 0 nothingYet nothing-is-sound (of-the-right-length bytes e .1)
+pub what-is-read-is-whole : (setting : Setting) (bytes : List ℕ) {m : MonthFile} → readMonth setting bytes ≡ given m → Whole m
+what-is-read-is-whole setting bytes e = read-on-whole setting (length bytes) bytes 0 nothingYet nothing-is-sound (of-the-right-length setting bytes e .1)
 
 -- THE BOUND OF `readOn` IS ENOUGH: from the number of bytes on, it does not matter how large it is
-pub bound-is-enough : (a b : ℕ) (bytes : List ℕ) (n : ℕ) (m : MonthFile) → length bytes ≤ a → length bytes ≤ b → readOn a bytes n m ≡ readOn b bytes n m
+pub bound-is-enough : (setting : Setting) (a b : ℕ) (bytes : List ℕ) (n : ℕ) (m : MonthFile) → length bytes ≤ a → length bytes ≤ b → readOn setting a bytes n m ≡ readOn setting b bytes n m
 unfolding readOn
-bound-is-enough zero zero bytes n m x y = refl
-bound-is-enough zero (suc b) [] n m x y = refl
-bound-is-enough zero (suc b) (kind ∷ body) n m x y = absurd (omega arith)
-bound-is-enough (suc a) zero [] n m x y = refl
-bound-is-enough (suc a) zero (kind ∷ body) n m x y = absurd (omega arith)
-bound-is-enough (suc a) (suc b) [] n m x y = refl
-bound-is-enough (suc a) (suc b) (kind ∷ body) n m x y =
+bound-is-enough setting zero zero bytes n m x y = refl
+bound-is-enough setting zero (suc b) [] n m x y = refl
+bound-is-enough setting zero (suc b) (kind ∷ body) n m x y = absurd (omega arith)
+bound-is-enough setting (suc a) zero [] n m x y = refl
+bound-is-enough setting (suc a) zero (kind ∷ body) n m x y = absurd (omega arith)
+bound-is-enough setting (suc a) (suc b) [] n m x y = refl
+bound-is-enough setting (suc a) (suc b) (kind ∷ body) n m x y =
     let left : List ℕ = drop (bodyLength kind) body in
     let fewer : length left ≤ length body = omega (arith, length-drop (bodyLength kind) body) in
     let r : Record = recordAt (kind ∷ body) in
-    ap (λ (rest : Answer MonthFile). onward (first (recordChecks m n (kind ∷ body))) (cond (isEnd r) (closed m (suc n) left) rest))
-    (bound-is-enough a b left (suc n) (with m r) (omega arith) (omega arith))
+    ap (λ (rest : Answer MonthFile). onward (first (recordChecks setting m n (kind ∷ body))) (cond (isEnd r) (closed m (suc n) left) rest))
+    (bound-is-enough setting a b left (suc n) (with m r) (omega arith) (omega arith))

@@ -1,10 +1,10 @@
 -- The worked months, each by computing the definitions from the file's bytes to the printed text.
 use mathlib.Core.Path.{refl}
-use Rattle.rules.specs.WorkedMonths.{fileOf, supply, partyOf, readingOf, headingOf, S1, D3, begin, fixedHours, refixedHours, prices, small, closing, opening, WorkedMonths}
+use Rattle.rules.specs.WorkedMonths.{fileOf, supply, partyOf, readingOf, headingOf, S1, D3, begin, fixedHours, refixedHours, prices, small, unrefixed, closing, opening, WorkedMonths}
 use Rattle.rules.proofs.Computed.{words, hours, parts, records, files, months, texts, reports}
 
 pub worked-months : WorkedMonths
-unfolding words hours parts records files months texts reports fileOf supply partyOf readingOf headingOf S1 D3 begin fixedHours refixedHours prices small closing opening
+unfolding words hours parts records files months texts reports fileOf supply partyOf readingOf headingOf S1 D3 begin fixedHours refixedHours prices small unrefixed closing opening
 worked-months =
     record {
       S1-lines = refl;
@@ -40,4 +40,9 @@ worked-months =
       refused-13 = refl;
       refused-14 = refl;
       refused-15 = refl;
+      refused-17 = refl;
+      report-refused-17 = refl;
+      not-refixed-before-W = refl;
+      refused-6-provisional = refl;
+      S1-preview = refl;
     }

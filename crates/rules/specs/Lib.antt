@@ -25,6 +25,7 @@
 pub mod Words
 pub mod Limits
 pub mod Refusals
+pub mod Setting
 pub mod Accepted
 pub mod Flows
 pub mod Distributed

@@ -12,7 +12,8 @@ use Rattle.rules.specs.MonthFile.{MonthFile, H, P, nothingYet, readMonth
 use Rattle.rules.specs.Periodised.{periodisedFigure}
 use Rattle.rules.specs.Reconciliation.{gridLoss, lossOf, differenceOf, amountMillionths, invoiceOre}
 use Rattle.rules.specs.Record.{Party, Reading}
-use Rattle.rules.specs.Refusals.{wOutOfRange, curveTooLarge, nothingToFollow, periodisedTooLarge, wrongLength, Verdict, refused, Answer, given, refusal, unless, andThen, first, inTurn}
+use Rattle.rules.specs.Refusals.{notRefixed, wOutOfRange, curveTooLarge, nothingToFollow, periodisedTooLarge, wrongLength, Verdict, refused, Answer, given, refusal, unless, andThen, first, inTurn}
+use Rattle.rules.specs.Setting.{Setting, provisional, isProvisional}
 use Rattle.rules.specs.Words.{sum, sumℤ, count, within}
 
 -- What stands at a place of a list. Past a list's end nothing is asked; what is written for it there is an empty record.
@@ -134,11 +135,16 @@ readingVerdict m j = unless (eqb (readingAt m j .e) 0 || leb 1 (S m (readingAt m
 unfoldable pub periodisedVerdict : MonthFile → ℕ → Verdict
 periodisedVerdict m t = unless (leb (allPeriodised m t) greatestPeriodised) periodisedTooLarge t
 
--- THE ORDER OF REFUSALS AFTER THE FILE IS READ. "Then 6; then the fixed hours in order, each 7, 8, 9; the refixed hours likewise;
--- 10 by hour; 13 by reading; 14 by hour".
-unfoldable pub monthChecks : MonthFile → List Verdict
-monthChecks m =
-    unless (within 1 greatestW (monthW m)) wOutOfRange 0
+-- W1: "17, no refixed series in a final run, place 0", by the number of 06 records
+unfoldable pub refixedVerdict : Setting → ℕ → Verdict
+refixedVerdict setting refixed = unless (isProvisional setting || leb 1 refixed) notRefixed 0
+
+-- THE ORDER OF REFUSALS AFTER THE FILE IS READ. W1: 17 "after the file is read and before 6". "Then 6; then the fixed hours in order, each 7, 8, 9; the refixed
+-- hours likewise; 10 by hour; 13 by reading; 14 by hour".
+unfoldable pub monthChecks : Setting → MonthFile → List Verdict
+monthChecks setting m =
+    refixedVerdict setting (length (m .refixed))
+    ∷ unless (within 1 greatestW (monthW m)) wOutOfRange 0
     ∷ inTurn (H m) (hourVerdict (m .fixed))
     ∷ inTurn (length (m .refixed)) (hourVerdict (m .refixed))
     ∷ inTurn (H m) (curveVerdict m)
@@ -146,25 +152,26 @@ monthChecks m =
     ∷ inTurn (H m) (periodisedVerdict m)
     ∷ []
 
-unfoldable pub monthVerdict : MonthFile → Verdict
-monthVerdict m = first (monthChecks m)
+unfoldable pub monthVerdict : Setting → MonthFile → Verdict
+monthVerdict setting m = first (monthChecks setting m)
 
--- A CALL ON A WHOLE FILE: the refusals of reading it, then those of the month.
-unfoldable pub verdictOn : Answer MonthFile → Verdict
-verdictOn (given m) = monthVerdict m
-verdictOn (refusal r place) = refused r place
+-- A CALL ON A WHOLE FILE, under the setting given: the refusals of reading it, then those of the month.
+unfoldable pub verdictOn : Setting → Answer MonthFile → Verdict
+verdictOn setting (given m) = monthVerdict setting m
+verdictOn setting (refusal r place) = refused r place
 
-unfoldable pub fileVerdict : List ℕ → Verdict
-fileVerdict file = verdictOn (readMonth file)
+unfoldable pub fileVerdict : Setting → List ℕ → Verdict
+fileVerdict setting file = verdictOn setting (readMonth setting file)
 
 -- "last, for a call on a whole month, 16"
-unfoldable pub callVerdict : List ℕ → Bool → Verdict
-callVerdict file lentRight = andThen (fileVerdict file) (unless lentRight wrongLength 0)
+unfoldable pub callVerdict : Setting → List ℕ → Bool → Verdict
+callVerdict setting file lentRight = andThen (fileVerdict setting file) (unless lentRight wrongLength 0)
 
 -- the month that a file is read as. Of a file that is refused nothing is asked; what is written for it there is an empty month.
 unfoldable pub monthRead : Answer MonthFile → MonthFile
 monthRead (given m) = m
 monthRead (refusal r place) = nothingYet
 
+-- it has no setting: a file that is read is read as the same month under both (law `read-alike`), so that no figure depends on what the caller says
 unfoldable pub monthOf : List ℕ → MonthFile
-monthOf file = monthRead (readMonth file)
+monthOf file = monthRead (readMonth provisional file)

@@ -10,6 +10,7 @@ use Rattle.rules.specs.Limits.{longestFile}
 use Rattle.rules.specs.MonthFile.{MonthFile, nothingYet, with, due, recordChecks, isEnd}
 use Rattle.rules.specs.Record.{Record, end, recordBytes, inFile, checks}
 use Rattle.rules.specs.Refusals.{Refusal, fileFault}
+use Rattle.rules.specs.Setting.{Setting}
 use Rattle.rules.specs.WellFormed.{bytesOfAll}
 use Rattle.rules.specs.Words.{within}
 
@@ -31,27 +32,27 @@ withAll m (r ∷ records) = withAll (with m r) records
 
 -- The refusal of what is left of a file where n records have passed: nothing is left, "for a missing end .. the place is the number of complete records"; or
 -- it is the first check that refuses of the record that stands there; or there stands the right end, and bytes after it.
-pub data RestRefuses (m : MonthFile) (n : ℕ) (rest : List ℕ) (r : Refusal) (place : ℕ) : Type 0 where
-  no-end : rest ≡ [] → r ≡ fileFault → place ≡ n → RestRefuses m n rest r place
-  the-record : 1 ≤ length rest → FirstRefuses (recordChecks m n rest) r place → RestRefuses m n rest r place
+pub data RestRefuses (setting : Setting) (m : MonthFile) (n : ℕ) (rest : List ℕ) (r : Refusal) (place : ℕ) : Type 0 where
+  no-end : rest ≡ [] → r ≡ fileFault → place ≡ n → RestRefuses setting m n rest r place
+  the-record : 1 ≤ length rest → FirstRefuses (recordChecks setting m n rest) r place → RestRefuses setting m n rest r place
   bytes-after :
       due m (end n) ≡ true
       → (byte : ℕ) (bytes : List ℕ)
       → rest ≡ recordBytes (end n) ++ (byte ∷ bytes)
       → r ≡ fileFault
       → place ≡ suc n
-      → RestRefuses m n rest r place
+      → RestRefuses setting m n rest r place
 
-pub record RecordRefuses (file : List ℕ) (r : Refusal) (place : ℕ) : Type 0 where
+pub record RecordRefuses (setting : Setting) (file : List ℕ) (r : Refusal) (place : ℕ) : Type 0 where
   pub right-length : within 1 longestFile (length file) ≡ true
   -- the records before it, and the rest of the file
   pub before : List Record
   pub rest : List ℕ
   pub split : file ≡ bytesOfAll before ++ rest
   pub all-pass : AllPass nothingYet 0 before
-  pub refuses : RestRefuses (withAll nothingYet before) (length before) rest r place
+  pub refuses : RestRefuses setting (withAll nothingYet before) (length before) rest r place
 
 -- "An empty or too long file is refused before all else, place 0"; then record by record
-pub data ReadingRefuses (file : List ℕ) (r : Refusal) (place : ℕ) : Type 0 where
-  of-the-length : within 1 longestFile (length file) ≡ false → r ≡ fileFault → place ≡ 0 → ReadingRefuses file r place
-  of-a-record : RecordRefuses file r place → ReadingRefuses file r place
+pub data ReadingRefuses (setting : Setting) (file : List ℕ) (r : Refusal) (place : ℕ) : Type 0 where
+  of-the-length : within 1 longestFile (length file) ≡ false → r ≡ fileFault → place ≡ 0 → ReadingRefuses setting file r place
+  of-a-record : RecordRefuses setting file r place → ReadingRefuses setting file r place

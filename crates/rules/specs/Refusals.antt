@@ -1,10 +1,10 @@
--- "Refusal numbers" (01): each refusal by name, its number, and the one rule of their order: the first that refuses wins.
+-- "Refusal numbers" (01, and the requests of 02): each refusal by name, its number, and the one rule of their order: the first that refuses wins.
 use mathlib.Core.Bool.{Bool, cond}
 use mathlib.Core.List.{List, [], _∷_}
 use Prim.Native.Nat.{ℕ}
 use Rattle.rules.specs.Words.{figures}
 
--- The table's rows, in its order.
+-- The table's rows, in its order, and then those that came with the requests.
 pub data Refusal : Type 0 where
   -- "file empty or too long; a body cut short; no end record; bytes after it"
   fileFault : Refusal
@@ -38,6 +38,8 @@ pub data Refusal : Type 0 where
   wrongCount : Refusal
   -- "a lent output is not of the needed length (record writer: too short)"
   wrongLength : Refusal
+  -- W1: "no refixed series in a final run"
+  notRefixed : Refusal
 
 abbrev pub numberOf : Refusal → ℕ
 numberOf fileFault = 1
@@ -56,6 +58,7 @@ numberOf nothingToFollow = 13
 numberOf periodisedTooLarge = 14
 numberOf wrongCount = 15
 numberOf wrongLength = 16
+numberOf notRefixed = 17
 
 -- "A refusal returns its number and a place, and the call has written nothing." "Places count from 0"
 pub data Verdict : Type 0 where

@@ -1,12 +1,14 @@
--- "The statement program" (01): its text, as bytes, from the bytes of the month file.
+-- "The statement program" (01) and the preview program (02, W1): their text, as bytes, from the setting and the bytes of the month file.
 use mathlib.Core.Bool.{cond}
 use mathlib.Core.List.{List, [], _∷_, _++_}
 use Prim.Native.Nat.{ℕ, zero, suc, _+_, _/_, _%_}
 use lib.Dec.{ltb}
 use lib.IntN.{ℤ, pos, negsuc}
+use lib.ListN.{length}
 use Rattle.rules.specs.Month.{partyAt, monthDistributed, monthPeriodised, monthLoss, monthDifference, invoice, estimatedHours, monthVerdict}
 use Rattle.rules.specs.MonthFile.{MonthFile, H, P, readMonth}
 use Rattle.rules.specs.Refusals.{Refusal, numberOf, Verdict, accepted, refused, Answer, given, refusal}
+use Rattle.rules.specs.Setting.{Setting}
 use Rattle.rules.specs.Words.{sum, sumℤ, figures, ascii}
 unfoldable pub use Rattle.rules.specs.Words.{joined}
 
@@ -39,9 +41,15 @@ newline = 10 ∷ []
 unfoldable pub refusalLine : Refusal → ℕ → List ℕ
 refusalLine r place = ascii "refused " ++ decimal (numberOf r) ++ ascii " at " ++ decimal place ++ newline
 
--- "a heading line with area (three digits), year-month, H, P and the number of applied hours with status 2"
-unfoldable pub headingText : ℕ → ℕ → ℕ → ℕ → ℕ → ℕ → List ℕ
-headingText area year month hours parties estimated =
+-- W1: "where there are no 06 records, ends its heading line with a space and `provisional`": by how many there are. (In a final run there are some: law
+-- `final-is-refixed`.)
+unfoldable pub provisionalEnding : ℕ → List ℕ
+provisionalEnding zero = ascii " provisional"
+provisionalEnding (suc more) = []
+
+-- "a heading line with area (three digits), year-month, H, P and the number of applied hours with status 2"; then its ending, by the number of 06 records
+unfoldable pub headingText : ℕ → ℕ → ℕ → ℕ → ℕ → ℕ → ℕ → List ℕ
+headingText area year month hours parties estimated refixed =
     ascii "area " ++ digitsOfWidth 3 area ++ ascii " " ++ decimal year ++ ascii "-" ++ digitsOfWidth 2 month
     ++ ascii " hours "
     ++ decimal hours
@@ -49,11 +57,12 @@ headingText area year month hours parties estimated =
     ++ decimal parties
     ++ ascii " estimated "
     ++ decimal estimated
+    ++ provisionalEnding refixed
     ++ newline
 
 unfoldable pub headingLine : MonthFile → List ℕ
 headingLine m =
-    headingText (m .heading .area) (m .heading .year) (m .heading .month) (H m) (P m) (estimatedHours m)
+    headingText (m .heading .area) (m .heading .year) (m .heading .month) (H m) (P m) (estimatedHours m) (length (m .refixed))
 
 -- a line of five columns: "distributed, periodised, loss, difference (month sums in Wh) and invoice øre"
 unfoldable pub columnsLine : List ℕ → ℤ → ℕ → ℤ → ℤ → ℤ → List ℕ
@@ -87,10 +96,11 @@ unfoldable pub judgedStatement : MonthFile → Verdict → List ℕ
 judgedStatement m accepted = statementLines m
 judgedStatement m (refused r place) = refusalLine r place
 
-unfoldable pub answeredStatement : Answer MonthFile → List ℕ
-answeredStatement (given m) = judgedStatement m (monthVerdict m)
-answeredStatement (refusal r place) = refusalLine r place
+unfoldable pub answeredStatement : Setting → Answer MonthFile → List ℕ
+answeredStatement setting (given m) = judgedStatement m (monthVerdict setting m)
+answeredStatement setting (refusal r place) = refusalLine r place
 
--- THE STATEMENT OF A FILE: "Reads one month file from standard input. .. On refusal it prints one line .. Else: .."
-unfoldable pub statement : List ℕ → List ℕ
-statement bytes = answeredStatement (readMonth bytes)
+-- THE STATEMENT OF A FILE: "Reads one month file from standard input. .. On refusal it prints one line .. Else: .." W1: "The statement program keeps final as its
+-- setting; a preview program asks for provisional"
+unfoldable pub statement : Setting → List ℕ → List ℕ
+statement setting bytes = answeredStatement setting (readMonth setting bytes)

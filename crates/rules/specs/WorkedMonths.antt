@@ -1,5 +1,5 @@
 -- Whole month files and what the rules give for each, from the file's bytes to the printed text: input S1 of 01 with its five lines, and the case D3 as a
--- month, both with the reviewer's report; a small month whose figures can be followed by hand; and each refusal 1 to 15 once, two faults at a time where an
+-- month, both with the reviewer's report; a small month whose figures can be followed by hand; and each refusal 1 to 15 and 17 once, two faults at a time where an
 -- order shows. Proved in proofs/WorkedMonths, by computing the definitions.
 use mathlib.Core.List.{List, [], _∷_, _++_}
 use mathlib.Core.Path.{_≡_}
@@ -11,6 +11,7 @@ use Rattle.rules.specs.Flows.{Flows}
 use Rattle.rules.specs.HoursReport.{hoursReport}
 use Rattle.rules.specs.Limits.{missing, measured, estimated}
 use Rattle.rules.specs.Record.{Record, heading, party, fixedHour, reading, price, refixedHour, end, recordBytes}
+use Rattle.rules.specs.Setting.{final, provisional}
 use Rattle.rules.specs.Statement.{statement}
 use Rattle.rules.specs.Words.{ascii}
 
@@ -62,7 +63,7 @@ S1 =
     ∷ end 22
     ∷ [])
 
--- The case D3 as a month: shares 6, 6 and 2, residuals 10 and 1, the second hour estimated. examples/README.md works it out by hand; the file is
+-- The case D3 as a month: shares 6, 6 and 2, residuals 10 and 1, the second hour estimated; refixation changed nothing. examples/README.md works it out by hand; the file is
 -- examples/d3.month.
 unfoldable pub D3 : List ℕ
 D3 =
@@ -73,11 +74,13 @@ D3 =
     ∷ partyOf "0000000000031" 2
     ∷ fixedHour 0 (record { status = measured; net = pos 16; production = 3; hourly = 6; flex = 3 })
     ∷ fixedHour 1 (record { status = estimated; net = negsuc 1; production = 8; hourly = 4; flex = 1 })
+    ∷ refixedHour 0 (record { status = measured; net = pos 16; production = 3; hourly = 6; flex = 3 })
+    ∷ refixedHour 1 (record { status = estimated; net = negsuc 1; production = 8; hourly = 4; flex = 1 })
     ∷ price 0 (pos 2000000)
     ∷ price 1 (negsuc 1499999)
     ∷ readingOf 0 0 2 6
     ∷ readingOf 2 1 2 2
-    ∷ end 10
+    ∷ end 12
     ∷ [])
 
 -- A month of two hours and two parties of equal shares; the second party's one reading runs over both hours. Its parts can be put in faulty.
@@ -100,9 +103,12 @@ small f0 f1 r0 r1 share0 share1 e =
     fileOf (begin share0 share1 ++ fixedHours f0 f1 ++ refixedHours r0 r1 ++ prices ++ (readingOf 1 0 2 e ∷ end 10 ∷ []))
 
 -- the same without a refixed series, and with the last records given
+unfoldable pub unrefixed : ℕ → ℕ → List Record → List ℕ
+unrefixed share0 share1 records =
+    fileOf (begin share0 share1 ++ fixedHours (supply measured (pos 1)) (supply measured (pos 3)) ++ prices ++ records)
+
 unfoldable pub closing : List Record → List ℕ
-closing records =
-    fileOf (begin 1 1 ++ fixedHours (supply measured (pos 1)) (supply measured (pos 3)) ++ prices ++ records)
+closing records = unrefixed 1 1 records
 
 -- the first records given, and nothing more
 unfoldable pub opening : List Record → List ℕ
@@ -111,88 +117,96 @@ opening records = fileOf records
 pub record WorkedMonths : Type 0 where
   -- "The whole output:"
   pub S1-lines :
-      statement S1
+      statement final S1
       ≡ ascii
       "area 007 2016-04 hours 3 parties 3 estimated 0\n0000000000017 18900000 27600000 0 8700000 266850\n0000000000024 75600000 63100000 0 -12500000 -382800\n0000000000031 31500000 32500000 2800000 3800000 115950\ntotal 126000000 123200000 2800000 0 0\n"
   -- the reviewer's report of the same month: every share divides evenly, so each running sum is the exact share
   pub S1-report :
-      hoursReport S1
+      hoursReport final S1
       ≡ ascii
       "area 007 2016-04 hours 3 parties 3 estimated 0\n0 measured measured 40000000 39000000 4000000 39000000 37900000 1100000\n1 measured measured 50000000 48000000 5000000 48000000 47400000 600000\n2 measured measured 40000000 39000000 4000000 39000000 37900000 1100000\n0000000000017 0/10000000 0/10000000\n0000000000024 0/10000000 0/10000000\n0000000000031 0/10000000 0/10000000\n"
   pub D3-lines :
-      statement D3
+      statement final D3
       ≡ ascii
       "area 003 2016-06 hours 2 parties 3 estimated 1\n0000000000017 5 6 0 1 2\n0000000000024 5 0 3 -2 7\n0000000000031 1 2 0 1 -9\ntotal 11 8 3 0 0\n"
   -- running sums 4, 4, 2 and then 5, 5, 1: the distances are -4, -4 and 8, then 4, 4 and -8 fourteenths of a Wh
   pub D3-report :
-      hoursReport D3
+      hoursReport final D3
       ≡ ascii
       "area 003 2016-06 hours 2 parties 3 estimated 1\n0 measured measured 10 10 714285 10 5 5\n1 estimated estimated 1 1 71428 1 3 -2\n0000000000017 -4/14 4/14\n0000000000024 -4/14 4/14\n0000000000031 -8/14 8/14\n"
-  pub report-refused : hoursReport [] ≡ ascii "refused 1 at 0\n"
+  pub report-refused : hoursReport final [] ≡ ascii "refused 1 at 0\n"
   -- "The curve always comes from the fixed one": 1 and 3, so E = 4 falls 1 and 3 (by the refixed 2 and 2 it would fall 2 and 2). The second party has 1
   -- and 1 distributed, so its differences are 0 and 2. Applied hours with status 2: one, the refixed hour 1.
   pub curve-from-fixed :
-      statement (small (supply measured (pos 1)) (supply measured (pos 3)) (supply measured (pos 2)) (supply estimated (pos 2)) 1 1 4)
+      statement final (small (supply measured (pos 1)) (supply measured (pos 3)) (supply measured (pos 2)) (supply estimated (pos 2)) 1 1 4)
       ≡ ascii
       "area 001 2020-01 hours 2 parties 2 estimated 1\n0000000000017 2 0 0 -2 -2\n0000000000024 2 4 0 2 2\ntotal 4 4 0 0 0\n"
   -- the same month in the report: hour 1 measured at fixation and estimated at refixation
   pub report-of-both-series :
-      hoursReport (small (supply measured (pos 1)) (supply measured (pos 3)) (supply measured (pos 2)) (supply estimated (pos 2)) 1 1 4)
+      hoursReport final (small (supply measured (pos 1)) (supply measured (pos 3)) (supply measured (pos 2)) (supply estimated (pos 2)) 1 1 4)
       ≡ ascii
       "area 001 2020-01 hours 2 parties 2 estimated 1\n0 measured measured 1 2 500000 2 1 1\n1 measured estimated 3 2 1500000 2 3 -1\n0000000000017 0/2 0/2\n0000000000024 0/2 0/2\n"
-  -- without refixed hours the fixed ones are applied; two readings of one party add up; the loss of either sign is the carrier's
+  -- without refixed hours the fixed ones are applied, in a provisional run; two readings of one party add up; the loss of either sign is the carrier's
   pub fixed-applied :
-      statement (closing (readingOf 1 0 2 4 ∷ readingOf 1 1 2 2 ∷ end 9 ∷ []))
+      statement provisional (closing (readingOf 1 0 2 4 ∷ readingOf 1 1 2 2 ∷ end 9 ∷ []))
       ≡ ascii
-      "area 001 2020-01 hours 2 parties 2 estimated 0\n0000000000017 2 0 -2 -4 -3\n0000000000024 2 6 0 4 3\ntotal 4 6 -2 0 0\n"
-  pub refused-1-empty : statement [] ≡ ascii "refused 1 at 0\n"
-  pub refused-1-no-end : statement (closing (readingOf 1 0 2 4 ∷ [])) ≡ ascii "refused 1 at 8\n"
-  pub refused-1-cut : statement (take 15 (opening (begin 1 1))) ≡ ascii "refused 1 at 1\n"
-  pub refused-1-after-the-end : statement (closing (end 7 ∷ end 7 ∷ [])) ≡ ascii "refused 1 at 8\n"
-  pub refused-2 : statement (closing [] ++ (8 ∷ [])) ≡ ascii "refused 2 at 7\n"
+      "area 001 2020-01 hours 2 parties 2 estimated 0 provisional\n0000000000017 2 0 -2 -4 -3\n0000000000024 2 6 0 4 3\ntotal 4 6 -2 0 0\n"
+  pub refused-1-empty : statement final [] ≡ ascii "refused 1 at 0\n"
+  pub refused-1-no-end : statement final (closing (readingOf 1 0 2 4 ∷ [])) ≡ ascii "refused 1 at 8\n"
+  pub refused-1-cut : statement final (take 15 (opening (begin 1 1))) ≡ ascii "refused 1 at 1\n"
+  pub refused-1-after-the-end : statement final (closing (end 7 ∷ end 7 ∷ [])) ≡ ascii "refused 1 at 8\n"
+  pub refused-2 : statement final (closing [] ++ (8 ∷ [])) ≡ ascii "refused 2 at 7\n"
   -- the only byte is 03: cut short (1) before out of order (3)
-  pub cut-before-order : statement (3 ∷ []) ≡ ascii "refused 1 at 0\n"
-  pub refused-3-kind : statement (closing (partyOf "0000000000031" 1 ∷ [])) ≡ ascii "refused 3 at 7\n"
+  pub cut-before-order : statement final (3 ∷ []) ≡ ascii "refused 1 at 0\n"
+  pub refused-3-kind : statement final (closing (partyOf "0000000000031" 1 ∷ [])) ≡ ascii "refused 3 at 7\n"
   -- an hour field out of order, with a status outside its range: 3 before 4
-  pub order-before-range : statement (opening (begin 1 1 ++ (fixedHour 1 (supply 3 (pos 0)) ∷ []))) ≡ ascii "refused 3 at 3\n"
-  pub refused-4-silent-figure : statement (opening (begin 1 1 ++ (fixedHour 0 (supply missing (pos 1)) ∷ []))) ≡ ascii "refused 4 at 3\n"
-  pub refused-4-carrier : statement (opening (headingOf 1 2020 1 2 2 2 ∷ [])) ≡ ascii "refused 4 at 0\n"
-  pub refused-5-check-digit : statement (opening (headingOf 1 2020 1 2 2 0 ∷ partyOf "0000000000018" 1 ∷ [])) ≡ ascii "refused 5 at 1\n"
+  pub order-before-range : statement final (opening (begin 1 1 ++ (fixedHour 1 (supply 3 (pos 0)) ∷ []))) ≡ ascii "refused 3 at 3\n"
+  pub refused-4-silent-figure : statement final (opening (begin 1 1 ++ (fixedHour 0 (supply missing (pos 1)) ∷ []))) ≡ ascii "refused 4 at 3\n"
+  pub refused-4-carrier : statement final (opening (headingOf 1 2020 1 2 2 2 ∷ [])) ≡ ascii "refused 4 at 0\n"
+  pub refused-5-check-digit : statement final (opening (headingOf 1 2020 1 2 2 0 ∷ partyOf "0000000000018" 1 ∷ [])) ≡ ascii "refused 5 at 1\n"
   pub refused-5-not-rising :
-      statement (opening (headingOf 1 2020 1 2 2 0 ∷ partyOf "0000000000024" 1 ∷ partyOf "0000000000024" 1 ∷ []))
+      statement final (opening (headingOf 1 2020 1 2 2 0 ∷ partyOf "0000000000024" 1 ∷ partyOf "0000000000024" 1 ∷ []))
       ≡ ascii "refused 5 at 2\n"
   -- three parties whose GLNs do not rise: the third is above the first, but not above the second
   pub refused-5-third-below-second :
-      statement (opening (headingOf 1 2020 1 2 3 0 ∷ partyOf "0000000000017" 1 ∷ partyOf "0000000000031" 1 ∷ partyOf "0000000000024" 1 ∷ []))
+      statement final (opening (headingOf 1 2020 1 2 3 0 ∷ partyOf "0000000000017" 1 ∷ partyOf "0000000000031" 1 ∷ partyOf "0000000000024" 1 ∷ []))
       ≡ ascii "refused 5 at 3\n"
   -- W is judged once the whole file is read, and before the missing hour
   pub refused-6 :
-      statement (small (supply missing (pos 0)) (supply measured (pos 3)) (supply measured (pos 2)) (supply measured (pos 2)) 0 0 4)
+      statement final (small (supply missing (pos 0)) (supply measured (pos 3)) (supply measured (pos 2)) (supply measured (pos 2)) 0 0 4)
       ≡ ascii "refused 6 at 0\n"
   pub refused-7 :
-      statement (small (supply measured (pos 1)) (supply missing (pos 0)) (supply measured (pos 2)) (supply measured (pos 2)) 1 1 4)
+      statement final (small (supply measured (pos 1)) (supply missing (pos 0)) (supply measured (pos 2)) (supply measured (pos 2)) 1 1 4)
       ≡ ascii "refused 7 at 1\n"
   -- all fixed hours before the refixed ones: 8 at the fixed hour 1 before 7 at the refixed hour 0
   pub refused-8 :
-      statement (small (supply measured (pos 1)) (supply measured (negsuc 0)) (supply missing (pos 0)) (supply measured (pos 2)) 1 1 4)
+      statement final (small (supply measured (pos 1)) (supply measured (negsuc 0)) (supply missing (pos 0)) (supply measured (pos 2)) 1 1 4)
       ≡ ascii "refused 8 at 1\n"
   pub refused-9 :
-      statement (small (supply measured (pos 1)) (supply measured (pos 3)) (supply measured (pos 2)) (supply measured (pos 2000000001)) 1 1 4)
+      statement final (small (supply measured (pos 1)) (supply measured (pos 3)) (supply measured (pos 2)) (supply measured (pos 2000000001)) 1 1 4)
       ≡ ascii "refused 9 at 1\n"
   -- 10 is judged on the fixed series, by hour, before 13 and 14
   pub refused-10 :
-      statement (small (supply measured (pos 0)) (supply measured (pos 2001)) (supply measured (pos 2)) (supply measured (pos 2)) 1 1 4)
+      statement final (small (supply measured (pos 0)) (supply measured (pos 2001)) (supply measured (pos 2)) (supply measured (pos 2)) 1 1 4)
       ≡ ascii "refused 10 at 1\n"
-  pub refused-11 : statement (closing (readingOf 1 1 1 4 ∷ [])) ≡ ascii "refused 11 at 7\n"
+  pub refused-11 : statement final (closing (readingOf 1 1 1 4 ∷ [])) ≡ ascii "refused 11 at 7\n"
   -- a reading with every fault: 4 before 11 before 12
-  pub range-before-span : statement (closing (readingOf 2 2 1 1000000001 ∷ [])) ≡ ascii "refused 4 at 7\n"
-  pub span-before-energy : statement (closing (readingOf 1 0 3 1000000001 ∷ [])) ≡ ascii "refused 11 at 7\n"
-  pub refused-12 : statement (closing (readingOf 1 0 2 1000000001 ∷ [])) ≡ ascii "refused 12 at 7\n"
+  pub range-before-span : statement final (closing (readingOf 2 2 1 1000000001 ∷ [])) ≡ ascii "refused 4 at 7\n"
+  pub span-before-energy : statement final (closing (readingOf 1 0 3 1000000001 ∷ [])) ≡ ascii "refused 11 at 7\n"
+  pub refused-12 : statement final (closing (readingOf 1 0 2 1000000001 ∷ [])) ≡ ascii "refused 12 at 7\n"
   pub refused-13 :
-      statement (small (supply measured (pos 0)) (supply measured (pos 0)) (supply measured (pos 2)) (supply measured (pos 2)) 1 1 4)
+      statement final (small (supply measured (pos 0)) (supply measured (pos 0)) (supply measured (pos 2)) (supply measured (pos 2)) 1 1 4)
       ≡ ascii "refused 13 at 0\n"
   pub refused-14 :
-      statement (closing (readingOf 1 0 1 1000000000 ∷ readingOf 0 0 1 1000000000 ∷ readingOf 1 0 1 1 ∷ end 10 ∷ []))
+      statement provisional (closing (readingOf 1 0 1 1000000000 ∷ readingOf 0 0 1 1000000000 ∷ readingOf 1 0 1 1 ∷ end 10 ∷ []))
       ≡ ascii "refused 14 at 0\n"
-  -- a wrong count and bytes after the end: 15 first
-  pub refused-15 : statement (closing (end 8 ∷ end 8 ∷ [])) ≡ ascii "refused 15 at 7\n"
+  -- a wrong count and bytes after the end: 15 first. W1: and these before 17, here and in `refused-1-after-the-end`, since there are no 06 records
+  pub refused-15 : statement final (closing (end 8 ∷ end 8 ∷ [])) ≡ ascii "refused 15 at 7\n"
+  -- W1: "A file with no 06 records shall be refused unless the caller says that the month is provisional."
+  pub refused-17 : statement final (closing (end 7 ∷ [])) ≡ ascii "refused 17 at 0\n"
+  pub report-refused-17 : hoursReport final (closing (end 7 ∷ [])) ≡ ascii "refused 17 at 0\n"
+  -- W1: "before 6": W is 0 too, which a provisional run tells
+  pub not-refixed-before-W : statement final (unrefixed 0 0 (end 7 ∷ [])) ≡ ascii "refused 17 at 0\n"
+  pub refused-6-provisional : statement provisional (unrefixed 0 0 (end 7 ∷ [])) ≡ ascii "refused 6 at 0\n"
+  -- with 06 records the preview is the statement
+  pub S1-preview : statement provisional S1 ≡ statement final S1
