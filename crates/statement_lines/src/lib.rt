@@ -1,5 +1,5 @@
-// The lines of the statement as bytes in a lent buffer (01 "The statement program"): the heading line, and a line of columns for each party and for the
-// total. Each function writes from a place on and answers the place after what it wrote.
+// The lines of the statement as bytes in a lent buffer (01 "The statement program"): the heading line, with what W1 of 02 ends it with, and a line of columns
+// for each party and for the total. Each function writes from a place on and answers the place after what it wrote.
 use text::put_bytes;
 use text::put_column;
 use text::put_energies;
@@ -9,12 +9,12 @@ use text::put_word_width;
 ghost use Prim.Native.Nat.{_+_, _≤_};
 ghost use lib.ListN.{length};
 ghost use Rattle.rules.specs.Statement.{headingText, columnsLine};
-ghost use Rattle.statement_lines.specs.Halves.{areaMonth, counted, nameEnergies, resulting};
-ghost use Rattle.statement_lines.specs.Rooms.{areaMonthRoom, countsRoom, headingRoom, nameEnergiesRoom, resultsRoom, columnsRoom};
+ghost use Rattle.statement_lines.specs.Halves.{areaMonth, counted, ending, nameEnergies, resulting};
+ghost use Rattle.statement_lines.specs.Rooms.{areaMonthRoom, countsRoom, endingRoom, headingRoom, nameEnergiesRoom, resultsRoom, columnsRoom};
 ghost use Rattle.text.specs.Text.{Put, longestName};
 
 // The most bytes of a heading line and of a line of columns, as specs/Rooms.antt adds them up: a caller lends no less.
-pub const HEADING_ROOM: usize = 120;
+pub const HEADING_ROOM: usize = 132;
 
 pub const COLUMNS_ROOM: usize = 119;
 
@@ -29,7 +29,7 @@ fn put_area_month(out: &mut [u8], place: usize, area: u64, year: u64, month: u64
     put_word_width(out, after_year, b"-", 2, month)
 }
 
-// "H, P and the number of applied hours with status 2", and the newline
+// "H, P and the number of applied hours with status 2"
 fn put_counts(out: &mut [u8], place: usize, hours: u64, parties: u64, estimated: u64) -> usize
     requires { ⌜ place + countsRoom ≤ length (now out) ⌝ }
     ensures text { λ end. ⌜ Put (counted hours parties estimated) (now (out .entry)) place (now (out .exit)) end ⌝ }
@@ -37,11 +37,23 @@ fn put_counts(out: &mut [u8], place: usize, hours: u64, parties: u64, estimated:
 {
     let after_hours = put_word_number(out, place, b" hours ", hours);
     let after_parties = put_word_number(out, after_hours, b" parties ", parties);
-    let after_estimated = put_word_number(out, after_parties, b" estimated ", estimated);
-    put_bytes(out, after_estimated, b"\n")
+    put_word_number(out, after_parties, b" estimated ", estimated)
 }
 
-// THE HEADING LINE: "a heading line with area (three digits), year-month, H, P and the number of applied hours with status 2"
+// W1: "where there are no 06 records, ends its heading line with a space and `provisional`"; and the newline. By the number of 06 records.
+fn put_ending(out: &mut [u8], place: usize, refixed: usize) -> usize
+    requires { ⌜ place + endingRoom ≤ length (now out) ⌝ }
+    ensures text { λ end. ⌜ Put (ending refixed) (now (out .entry)) place (now (out .exit)) end ⌝ }
+    ensures within { λ end. ⌜ end ≤ place + endingRoom ⌝ }
+{
+    if refixed == 0 {
+        return put_bytes(out, place, b" provisional\n");
+    }
+    put_bytes(out, place, b"\n")
+}
+
+// THE HEADING LINE: "a heading line with area (three digits), year-month, H, P and the number of applied hours with status 2", and its ending by the number of
+// 06 records.
 pub fn heading_line(
     out: &mut [u8],
     place: usize,
@@ -51,13 +63,15 @@ pub fn heading_line(
     hours: u16,
     parties: u8,
     estimated: usize,
+    refixed: usize,
 ) -> usize
     requires { ⌜ place + headingRoom ≤ length (now out) ⌝ }
-    ensures text { λ end. ⌜ Put (headingText area year month hours parties estimated) (now (out .entry)) place (now (out .exit)) end ⌝ }
+    ensures text { λ end. ⌜ Put (headingText area year month hours parties estimated refixed) (now (out .entry)) place (now (out .exit)) end ⌝ }
     ensures within { λ end. ⌜ end ≤ place + headingRoom ⌝ }
 {
     let counts = put_area_month(out, place, area as u64, year as u64, month as u64);
-    put_counts(out, counts, hours as u64, parties as u64, estimated as u64)
+    let ending = put_counts(out, counts, hours as u64, parties as u64, estimated as u64);
+    put_ending(out, ending, refixed)
 }
 
 // The first columns: "GLN, distributed, periodised"

@@ -1,6 +1,5 @@
--- `statement_lines::put_counts` meets its contract: each word and its number after the one before, and the newline. Assumes nothing.
+-- `statement_lines::put_counts` meets its contract: each word and its number after the one before. Assumes nothing.
 use Rattle.rules.specs.Words.{ascii}
-use Rattle.rules.specs.Statement.{newline}
 use Rattle.statement_lines.proofs.Lines.{counts}
 use borrow.Author.Needs.{needs}
 use Rattle.statement_lines.proofs.put_counts.Statement.{statement}
@@ -24,24 +23,17 @@ slice-aggregate-put-word-number-3 c = search needs
 put-word-number-requires-3 : tie.Need-put-word-number-requires-3
 put-word-number-requires-3 c κs = search needs
 
-slice-aggregate-put-bytes : tie.Need-slice-aggregate-put-bytes
-slice-aggregate-put-bytes c = search needs
-
-put-bytes-requires : tie.Need-put-bytes-requires
-put-bytes-requires c κs = search needs
-
 same-length : tie.Need-same-length
 same-length c = search needs
 
 returns : tie.Need-returns
-unfolding ascii newline
+unfolding ascii
 returns c =
-    let after-put-bytes = c .before .before in
-    let after-put-word-number3 = after-put-bytes .before .before .before .before .before in
+    let after-put-word-number3 = c .before .before in
     let after-put-word-number2 = after-put-word-number3 .before .before .before .before .before in
     let after-put-word-number = after-put-word-number2 .before .before .before .before .before in (
       counts _ _ _ (after-put-word-number .put-word-number .ensures .0) (after-put-word-number2 .put-word-number2 .ensures .0)
-          (after-put-word-number3 .put-word-number3 .ensures .0) (after-put-bytes .put-bytes .ensures),
+          (after-put-word-number3 .put-word-number3 .ensures .0),
       search needs,
     )
 
@@ -55,7 +47,5 @@ put-counts-spec =
     put-word-number-requires-2
     slice-aggregate-put-word-number-3
     put-word-number-requires-3
-    slice-aggregate-put-bytes
-    put-bytes-requires
     same-length
     returns)
