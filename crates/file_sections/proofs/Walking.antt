@@ -11,6 +11,8 @@ use lib.ListN.{length, drop, length-drop, drop-of-length-le}
 use lib.Seq.{drop-drop}
 use Rattle.answer.specs.Said.{named}
 use Rattle.answer.specs.declared.Refusal.{Refusal}
+use Rattle.setting.specs.Asked.{asked}
+use Rattle.setting.specs.declared.Setting as Called
 use Rattle.file_step.specs.declared.Walk.{Walk}
 use Rattle.file_step.specs.declared.Step.{Step}
 use Rattle.file_step.specs.declared.Step.the-variants as S
@@ -22,39 +24,40 @@ use Rattle.rules.specs.MonthFile.{MonthFile, nothingYet, risesAfter, recordChec
 use Rattle.rules.specs.MonthFile as F
 use Rattle.rules.specs.Record as R
 use Rattle.rules.specs.Refusals.{fileFault, given, refusal, first}
+use Rattle.rules.specs.Setting.{Setting}
 use Rattle.rules.specs.Words.{within, at}
 
-pub record Walking (file : List ℕ) (w : Walk) (place : ℕ) : Type 0 where
+pub record Walking (setting : Setting) (file : List ℕ) (w : Walk) (place : ℕ) : Type 0 where
   pub bound : place ≤ length file
   pub counted : Counted w
   pub fuel : w .records ≤ place
   pub month : MonthFile
   pub stands : Stands month w
-  pub same : readOn (length file - w .records) (drop place file) (w .records) month ≡ readOn (length file) file 0 nothingYet
+  pub same : readOn (asked (w .setting)) (length file - w .records) (drop place file) (w .records) month ≡ readOn setting (length file) file 0 nothingYet
 
-pub walk-start : (file : List ℕ) → Walking file startOf 0
+pub walk-start : (setting : Called.Setting) (file : List ℕ) → Walking (asked setting) file (startOf setting) 0
 unfolding nothingYet risesAfter
-walk-start file =
+walk-start setting file =
     record { bound = zero-le; counted = none; fuel = zero-le; month = nothingYet; stands = nothing; same = rw (sub-zero (length file)) }
   where
-    none : Counted startOf
+    none : Counted (startOf setting)
     none = record { parties = zero-le; fixed = zero-le; refixed = zero-le; prices = zero-le; readings = zero-le }
 
-    nothing : Stands nothingYet startOf
+    nothing : Stands nothingYet (startOf setting)
     nothing =
         record { heading = refl; parties = refl; fixed = refl; refixed = refl; prices = refl; readings = refl; rising = λ p. refl }
 
 -- one turn of the definition
 turn :
-    (fuel : ℕ) (bytes : List ℕ) (n : ℕ) (m : MonthFile)
+    (setting : Setting) (fuel : ℕ) (bytes : List ℕ) (n : ℕ) (m : MonthFile)
     → 1 ≤ length bytes
-    → readOn (suc fuel) bytes n m
-    ≡ onward (first (recordChecks m n bytes))
+    → readOn setting (suc fuel) bytes n m
+    ≡ onward (first (recordChecks setting m n bytes))
     (cond (isEnd (R.recordAt bytes)) (closed m (suc n) (drop (suc (R.bodyLength (R.kindAt bytes))) bytes))
-    (readOn fuel (drop (suc (R.bodyLength (R.kindAt bytes))) bytes) (suc n) (F.with m (R.recordAt bytes))))
+    (readOn setting fuel (drop (suc (R.bodyLength (R.kindAt bytes))) bytes) (suc n) (F.with m (R.recordAt bytes))))
 unfolding readOn R.kindAt at
-turn fuel [] n m b = absurd (not-suc-le-zero b)
-turn fuel (kind ∷ body) n m b = refl
+turn setting fuel [] n m b = absurd (not-suc-le-zero b)
+turn setting fuel (kind ∷ body) n m b = refl
 
 closed-gives : (m : MonthFile) (n : ℕ) (l : List ℕ) → length l ≡ 0 → closed m n l ≡ given m
 unfolding closed
@@ -66,10 +69,10 @@ unfolding closed
 closed-refuses m n [] b = absurd (not-suc-le-zero b)
 closed-refuses m n (x ∷ l) b = refl
 
-none-left : (fuel n : ℕ) (m : MonthFile) → readOn fuel [] n m ≡ refusal fileFault n
+none-left : (setting : Setting) (fuel n : ℕ) (m : MonthFile) → readOn setting fuel [] n m ≡ refusal fileFault n
 unfolding readOn
-none-left zero n m = refl
-none-left (suc fuel) n m = refl
+none-left setting zero n m = refl
+none-left setting (suc fuel) n m = refl
 
 -- the numbers of the walk are the sections of the month
 same-sections : (m : MonthFile) (w : Walk) → Stands m w → sectionsOf m ≡ sectionsIn w
@@ -79,28 +82,28 @@ same-sections m w st =
     ∙ ap₂ (λ (r g : ℕ). sectionsFor (w .heading) r g) (sym (st .refixed)) (sym (st .readings))
 
 -- "An empty or too long file is refused before all else, place 0"
-module _ (file : List ℕ) where
-  pub empty : length file < 1 → refusal fileFault 0 ≡ readMonth file
+module _ (setting : Setting) (file : List ℕ) where
+  pub empty : length file < 1 → refusal fileFault 0 ≡ readMonth setting file
   unfolding readMonth within
   empty b = rw (lt-leb 1 (length file) b)
 
-  pub too-long : 1 ≤ length file → longestFile < length file → refusal fileFault 0 ≡ readMonth file
+  pub too-long : 1 ≤ length file → longestFile < length file → refusal fileFault 0 ≡ readMonth setting file
   unfolding readMonth within
   too-long a b = rw (le-leb 1 (length file) a, lt-leb (length file) longestFile b)
 
-  read-by-records : 1 ≤ length file → length file ≤ longestFile → readOn (length file) file 0 nothingYet ≡ readMonth file
+  read-by-records : 1 ≤ length file → length file ≤ longestFile → readOn setting (length file) file 0 nothingYet ≡ readMonth setting file
   unfolding readMonth within
   read-by-records a b = rw (le-leb 1 (length file) a, le-leb (length file) longestFile b)
 
 -- A turn of the loop: the file's length is right, and the walk stands before its end.
-pub record Turn (file : List ℕ) (w : Walk) (place : ℕ) : Type 0 where
+pub record Turn (setting : Setting) (file : List ℕ) (w : Walk) (place : ℕ) : Type 0 where
   pub some : 1 ≤ length file
   pub short : length file ≤ longestFile
-  pub walking : Walking file w place
+  pub walking : Walking setting file w place
   pub more : place < length file
 
-module _ (file : List ℕ) (w : Walk) (place : ℕ) (turn-is : Turn file w place) where
-  abbrev k : Walking file w place
+module _ (setting : Setting) (file : List ℕ) (w : Walk) (place : ℕ) (turn-is : Turn setting file w place) where
+  abbrev k : Walking setting file w place
   k = turn-is .walking
 
   -- the bytes that are left, and those after the record at their start
@@ -123,56 +126,57 @@ module _ (file : List ℕ) (w : Walk) (place : ℕ) (turn-is : Turn file w place
   steppable = record { few = few; some = some-left }
 
   this-turn :
-      readMonth file
-      ≡ onward (first (recordChecks (k .month) (w .records) rest))
+      readMonth setting file
+      ≡ onward (first (recordChecks (asked (w .setting)) (k .month) (w .records) rest))
       (cond (isEnd (R.recordAt rest)) (closed (k .month) (suc (w .records)) later)
-      (readOn (length file - suc (w .records)) later (suc (w .records)) (F.with (k .month) (R.recordAt rest))))
+      (readOn (asked (w .setting)) (length file - suc (w .records)) later (suc (w .records)) (F.with (k .month) (R.recordAt rest))))
   this-turn =
       let fuel : length file - w .records ≡ suc (length file - suc (w .records)) = omega (arith, k .fuel, turn-is .more) in
-      sym (read-by-records file (turn-is .some) (turn-is .short)) ∙ sym (k .same)
-      ∙ ap (λ (f : ℕ). readOn f rest (w .records) (k .month)) fuel
-      ∙ turn (length file - suc (w .records)) rest (w .records) (k .month) some-left
+      sym (read-by-records setting file (turn-is .some) (turn-is .short)) ∙ sym (k .same)
+      ∙ ap (λ (f : ℕ). readOn (asked (w .setting)) f rest (w .records) (k .month)) fuel
+      ∙ turn (asked (w .setting)) (length file - suc (w .records)) rest (w .records) (k .month) some-left
 
   -- the reading goes on
   module _ {v : Walk} {size : ℕ} (s : Stepped w rest (S.Next v size)) where
     abbrev grown : MonthFile
     grown = F.with (k .month) (R.recordAt rest)
 
-    same-later : readOn (length file - v .records) (drop (place + size) file) (v .records) grown ≡ readOn (length file) file 0 nothingYet
+    same-later : readOn (asked (v .setting)) (length file - v .records) (drop (place + size) file) (v .records) grown ≡ readOn setting (length file) file 0 nothingYet
     unfolding onward
     same-later =
         let means = s .means (k .month) (k .stands) in
         let n : v .records ≡ suc (w .records) = s .moves .1 ∙ add-one (w .records) in
         let size-is : size ≡ suc (R.bodyLength (R.kindAt rest)) = omega (arith, s .moves .0) in
         let there : drop (place + size) file ≡ later = sym (drop-drop size place file) ∙ ap (λ (j : ℕ). drop j rest) size-is in
-        ap₂ (λ (j : ℕ) (l : List ℕ). readOn (length file - j) l j grown) n there
-        ∙ sym (read-by-records file (turn-is .some) (turn-is .short) ∙ this-turn ∙ rw (means .0, means .1))
+        ap (λ (x : Called.Setting). readOn (asked x) (length file - v .records) (drop (place + size) file) (v .records) grown) (s .moves .4)
+        ∙ ap₂ (λ (j : ℕ) (l : List ℕ). readOn (asked (w .setting)) (length file - j) l j grown) n there
+        ∙ sym (read-by-records setting file (turn-is .some) (turn-is .short) ∙ this-turn ∙ rw (means .0, means .1))
 
-    next-walking : Walking file v (place + size)
+    next-walking : Walking setting file v (place + size)
     next-walking =
         record { bound = omega (arith, left, s .moves .3); counted = s .moves .2; fuel = omega (arith, k .fuel, s .moves .0, s .moves .1); month = grown; stands = s .means (k .month) (k .stands) .2; same = same-later }
 
   -- a record is refused
-  refused-here : {r : Refusal} {q : ℕ} → Stepped w rest (S.Refused r q) → refusal (named r) q ≡ readMonth file
+  refused-here : {r : Refusal} {q : ℕ} → Stepped w rest (S.Refused r q) → refusal (named r) q ≡ readMonth setting file
   unfolding onward
   refused-here s = sym (this-turn ∙ rw (s .means (k .month) (k .stands)))
 
   -- the end record, and what stands after it
   module _ (s : Stepped w rest S.End) where
-    ended : readMonth file ≡ closed (k .month) (suc (w .records)) later
+    ended : readMonth setting file ≡ closed (k .month) (suc (w .records)) later
     unfolding onward
     ended = let means = s .means (k .month) (k .stands) in this-turn ∙ rw (means .0, means .1)
 
     after-the-end : length later ≡ length rest - 5
     after-the-end = length-drop (suc (R.bodyLength (R.kindAt rest))) rest ∙ omega (arith, s .moves .0)
 
-    at-the-end : length file - place ≡ 5 → given (sectionsIn w) ≡ readAnswer (readMonth file)
+    at-the-end : length file - place ≡ 5 → given (sectionsIn w) ≡ readAnswer (readMonth setting file)
     at-the-end e =
         sym
         (ap readAnswer (ended ∙ closed-gives (k .month) (suc (w .records)) later (omega (arith, left, after-the-end)))
         ∙ ap given (same-sections (k .month) w (k .stands)))
 
-    past-the-end : (length file - place ≡ 5 → ⊥) → refusal fileFault (w .records + 1) ≡ readMonth file
+    past-the-end : (length file - place ≡ 5 → ⊥) → refusal fileFault (w .records + 1) ≡ readMonth setting file
     past-the-end e =
         sym
         (ended ∙ closed-refuses (k .month) (suc (w .records)) later (omega (arith, left, after-the-end, s .moves .1, e))
@@ -183,28 +187,28 @@ module _ (file : List ℕ) (w : Walk) (place : ℕ) (turn-is : Turn file w place
     stepped-as : {t : Step} → s ≡ t → Stepped w rest t
     stepped-as e = subst (Stepped w rest) e stepped
 
-    pub goes-on : {v : Walk} {size : ℕ} → s ≡ S.Next v size → Walking file v (place + size)
+    pub goes-on : {v : Walk} {size : ℕ} → s ≡ S.Next v size → Walking setting file v (place + size)
     goes-on e = next-walking (stepped-as e)
 
     pub moves : {v : Walk} {size : ℕ} → s ≡ S.Next v size → (1 ≤ size) × (place + size ≤ length file)
     moves e = (omega (arith, stepped-as e .moves .0), goes-on e .bound)
 
-    pub refuses : {r : Refusal} {q : ℕ} → s ≡ S.Refused r q → refusal (named r) q ≡ readAnswer (readMonth file)
+    pub refuses : {r : Refusal} {q : ℕ} → s ≡ S.Refused r q → refusal (named r) q ≡ readAnswer (readMonth setting file)
     refuses e = ap readAnswer (refused-here (stepped-as e))
 
-    pub accepts : {x : Sections} → s ≡ S.End → length file - place ≡ 5 → x ≡ sectionsIn w → given x ≡ readAnswer (readMonth file)
+    pub accepts : {x : Sections} → s ≡ S.End → length file - place ≡ 5 → x ≡ sectionsIn w → given x ≡ readAnswer (readMonth setting file)
     accepts e five is = ap given is ∙ at-the-end (stepped-as e) five
 
-    pub goes-past : s ≡ S.End → (length file - place ≡ 5 → ⊥) → refusal fileFault (w .records + 1) ≡ readAnswer (readMonth file)
+    pub goes-past : s ≡ S.End → (length file - place ≡ 5 → ⊥) → refusal fileFault (w .records + 1) ≡ readAnswer (readMonth setting file)
     goes-past e longer = ap readAnswer (past-the-end (stepped-as e) longer)
 
 -- no end record
 pub never-ends :
-    (file : List ℕ) → 1 ≤ length file → length file ≤ longestFile → (w : Walk) (place : ℕ) → Walking file w place → length file ≤ place
-    → refusal fileFault (w .records) ≡ readAnswer (readMonth file)
-never-ends file some short w place k b =
+    (setting : Setting) (file : List ℕ) → 1 ≤ length file → length file ≤ longestFile → (w : Walk) (place : ℕ) → Walking setting file w place → length file ≤ place
+    → refusal fileFault (w .records) ≡ readAnswer (readMonth setting file)
+never-ends setting file some short w place k b =
     ap readAnswer
     (sym
-    (sym (k .same) ∙ ap (λ (l : List ℕ). readOn (length file - w .records) l (w .records) (k .month)) (drop-of-length-le file b)
-    ∙ none-left (length file - w .records) (w .records) (k .month))
-    ∙ read-by-records file some short)
+    (sym (k .same) ∙ ap (λ (l : List ℕ). readOn (asked (w .setting)) (length file - w .records) l (w .records) (k .month)) (drop-of-length-le file b)
+    ∙ none-left (asked (w .setting)) (length file - w .records) (w .records) (k .month))
+    ∙ read-by-records setting file some short)

@@ -5,12 +5,15 @@ use Prim.Native.Nat.{ℕ, _+_, _*_}
 use lib.ListN.{length}
 use Rattle.answer.specs.Said.{named}
 use Rattle.record.specs.declared.Heading as CHeading
+use Rattle.setting.specs.Asked.{asked}
+use Rattle.setting.specs.declared.Setting.{Setting}
 use Rattle.file_step.specs.declared.Walk.{Walk}
 use Rattle.file_sections.specs.declared.Sections.{Sections}
 use Rattle.file_sections.specs.declared.MonthRead.{MonthRead}
 use Rattle.file_sections.specs.declared.MonthRead.the-variants as M
 use Rattle.rules.specs.MonthFile.{MonthFile, readMonth}
 use Rattle.rules.specs.Refusals.{Answer, given, refusal}
+use Rattle.rules.specs.Setting.{provisional}
 
 -- where each section starts, of so many parties, hours and refixed hours: the heading has 10 bytes, a party 22, an hour 36, a price 7
 abbrev pub sectionsFor : CHeading.Heading → ℕ → ℕ → Sections
@@ -42,9 +45,9 @@ readAnswer (given m) = given (sectionsOf m)
 readAnswer (refusal r place) = refusal r place
 
 -- THE PROMISE of `read`: its `ensures` cites it, and so does what is proved of every service (`every_service`)
-abbrev pub Promised : List ℕ → MonthRead → Type 0
-Promised file r = told r ≡ readAnswer (readMonth file)
+abbrev pub Promised : Setting → List ℕ → MonthRead → Type 0
+Promised setting file r = told r ≡ readAnswer (readMonth (asked setting) file)
 
--- the file is accepted, with these sections
+-- the file is accepted by the reading, with these sections: under one setting as under the other (law `read-alike` of the rules)
 pub record Accepted (file : List ℕ) (s : Sections) : Type 0 where
-  pub is : readAnswer (readMonth file) ≡ given s
+  pub is : readAnswer (readMonth provisional file) ≡ given s

@@ -4,6 +4,7 @@ use answer::Refusal;
 use file_step::Step;
 use file_step::Walk;
 use record::Heading;
+use setting::Setting;
 ghost use mathlib.Core.Path.{_≡_};
 ghost use Rattle.file_step.specs.Walk.{Few};
 ghost use Rattle.file_sections.specs.Walk.{sectionsIn, Promised};
@@ -51,8 +52,8 @@ fn laid_out(w: Walk) -> Sections
 
 // A WHOLE FILE, record by record. Refuses 1 where it is empty or too long, before all else; then each record by 2, 1, 3, 4, 5, 11, 12, 15; then 1 for a
 // missing end and for bytes after it, at the number of complete records.
-pub fn read(file: &[u8]) -> MonthRead
-    ensures { λ r. ⌜ Promised (now (file .entry)) r ⌝ }
+pub fn read(file: &[u8], setting: Setting) -> MonthRead
+    ensures { λ r. ⌜ Promised setting (now (file .entry)) r ⌝ }
 {
     if file.len() < 1 {
         return MonthRead::Refused(Refusal::FileFault, 0);
@@ -60,7 +61,7 @@ pub fn read(file: &[u8]) -> MonthRead
     if limits::LONGEST_FILE < file.len() {
         return MonthRead::Refused(Refusal::FileFault, 0);
     }
-    let mut w = file_step::start();
+    let mut w = file_step::start(setting);
     let mut at = 0;
     while at < file.len() {
         let step = file_reader::next_at(file, at, w);

@@ -48,17 +48,17 @@ module _ (w : Walk) (bytes : List ℕ) (size : ℕ) (body : size ≡ R.bodyLengt
   party-moves share (Valid number) = risen (rises w number)
     where
       risen : (t : Bool) → StepMoves w bytes (cond t (movedIn w (Party share) number size) (S.Refused GlnFault (w .records)))
-      risen true = (one-further .0, refl, omega (arith, c), one-further .1)
+      risen true = (one-further .0, refl, omega (arith, c), one-further .1, refl)
       risen false = tt
   party-moves share Invalid = tt
 
   moves-on : (x : Record) → recordOf (glnBytes bytes) x ≡ R.recordAt bytes → (gln : List ℕ) → StepMoves w bytes (judgedIn w x gln size)
-  moves-on (Heading h) is gln = (one-further .0, refl, omega (arith, c), one-further .1)
+  moves-on (Heading h) is gln = (one-further .0, refl, omega (arith, c), one-further .1, refl)
   moves-on (Party share) is gln = party-moves share (glnAnswer gln)
-  moves-on (FixedHour hour f) is gln = (one-further .0, refl, omega (arith, c), one-further .1)
-  moves-on (Reading r) is gln = (one-further .0, refl, omega (arith, c), one-further .1)
-  moves-on (Price hour p) is gln = (one-further .0, refl, omega (arith, c), one-further .1)
-  moves-on (RefixedHour hour f) is gln = (one-further .0, refl, omega (arith, c), one-further .1)
+  moves-on (FixedHour hour f) is gln = (one-further .0, refl, omega (arith, c), one-further .1, refl)
+  moves-on (Reading r) is gln = (one-further .0, refl, omega (arith, c), one-further .1, refl)
+  moves-on (Price hour p) is gln = (one-further .0, refl, omega (arith, c), one-further .1, refl)
+  moves-on (RefixedHour hour f) is gln = (one-further .0, refl, omega (arith, c), one-further .1, refl)
   moves-on (End count) is gln = ended (eqb count (w .records))
     where
       ended : (t : Bool) → StepMoves w bytes (cond t S.End (S.Refused WrongCount (w .records)))

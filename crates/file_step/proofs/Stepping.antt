@@ -17,6 +17,7 @@ use Rattle.gln.specs.Gln.{glnAnswer}
 use Rattle.record.specs.Record.{recordOf, glnBytes, faultOf}
 use Rattle.record.specs.declared.Record.{Record}
 use Rattle.record.specs.declared.Record.the-variants.{Heading, Party, FixedHour, Reading, Price, RefixedHour, End}
+use Rattle.setting.specs.Asked.{asked}
 use Rattle.file_step.specs.declared.Walk.{Walk}
 use Rattle.file_step.specs.declared.Step.the-variants as S
 use Rattle.file_step.specs.Walk as W
@@ -140,7 +141,7 @@ module _ (m : MonthFile) (w : Walk) (st : Stands m w) (bytes : List ℕ) (size :
   here = w .records
 
   abbrev verdict-here : Verdict
-  verdict-here = first (recordChecks m here bytes)
+  verdict-here = first (recordChecks (asked (w .setting)) m here bytes)
 
   goes-on :
       (number : ℕ) (x : Record) → recordOf gln x ≡ R.recordAt bytes → isEnd (recordOf gln x) ≡ false → Kept m w st gln number x
@@ -208,7 +209,7 @@ module _ (m : MonthFile) (w : Walk) (st : Stands m w) (bytes : List ℕ) where
   n = w .records
 
   abbrev verdict : Verdict
-  verdict = first (recordChecks m n bytes)
+  verdict = first (recordChecks (asked (w .setting)) m n bytes)
 
   abbrev kind : ℕ
   kind = R.kindAt bytes

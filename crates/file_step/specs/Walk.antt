@@ -13,6 +13,8 @@ use Rattle.gln.specs.declared.Gln.the-variants.{Valid, Invalid}
 use Rattle.record.specs.Record.{headingOf}
 use Rattle.record.specs.declared.Record.{Record}
 use Rattle.record.specs.declared.Record.the-variants.{Heading, Party, FixedHour, Reading, Price, RefixedHour, End}
+use Rattle.setting.specs.Asked.{asked}
+use Rattle.setting.specs.declared.Setting.{Setting}
 use Rattle.file_step.specs.declared.Walk.{Walk}
 use Rattle.file_step.specs.declared.Step.{Step}
 use Rattle.file_step.specs.declared.Step.the-variants as S
@@ -24,9 +26,10 @@ use Rattle.rules.specs.Record as RRecord
 use Rattle.rules.specs.Refusals.{accepted, refused, first}
 
 -- nothing read yet
-abbrev pub startOf : Walk
-startOf =
+abbrev pub startOf : Setting → Walk
+startOf setting =
     record {
+      setting = setting;
       records = 0;
       heading = record { area = 0; year = 0; month = 0; hours = 0; parties = 0; carrier = 0 };
       parties = 0;
@@ -55,6 +58,7 @@ dueIn w (End count) = leb 1 (w .heading .hours) && eqb (w .prices) (w .heading .
 abbrev pub withIn : Walk → Record → ℕ → Walk
 withIn w (Heading h) number =
     record {
+      setting = w .setting;
       records = w .records + 1;
       heading = h;
       parties = w .parties;
@@ -66,6 +70,7 @@ withIn w (Heading h) number =
     }
 withIn w (Party share) number =
     record {
+      setting = w .setting;
       records = w .records + 1;
       heading = w .heading;
       parties = w .parties + 1;
@@ -77,6 +82,7 @@ withIn w (Party share) number =
     }
 withIn w (FixedHour hour f) number =
     record {
+      setting = w .setting;
       records = w .records + 1;
       heading = w .heading;
       parties = w .parties;
@@ -88,6 +94,7 @@ withIn w (FixedHour hour f) number =
     }
 withIn w (Reading r) number =
     record {
+      setting = w .setting;
       records = w .records + 1;
       heading = w .heading;
       parties = w .parties;
@@ -99,6 +106,7 @@ withIn w (Reading r) number =
     }
 withIn w (Price hour p) number =
     record {
+      setting = w .setting;
       records = w .records + 1;
       heading = w .heading;
       parties = w .parties;
@@ -110,6 +118,7 @@ withIn w (Price hour p) number =
     }
 withIn w (RefixedHour hour f) number =
     record {
+      setting = w .setting;
       records = w .records + 1;
       heading = w .heading;
       parties = w .parties;
@@ -121,6 +130,7 @@ withIn w (RefixedHour hour f) number =
     }
 withIn w (End count) number =
     record {
+      setting = w .setting;
       records = w .records + 1;
       heading = w .heading;
       parties = w .parties;
@@ -157,15 +167,16 @@ pub record Stands (m : MonthFile) (w : Walk) : Type 0 where
 -- what a step says of the record at the start of the bytes, for the month that has been read so far
 abbrev pub StepMeans : Walk → List ℕ → MonthFile → Step → Type 0
 StepMeans w bytes m (S.Next v size) =
-    (first (recordChecks m (w .records) bytes) ≡ accepted) × (isEnd (RRecord.recordAt bytes) ≡ false)
+    (first (recordChecks (asked (w .setting)) m (w .records) bytes) ≡ accepted) × (isEnd (RRecord.recordAt bytes) ≡ false)
     × Stands (F.with m (RRecord.recordAt bytes)) v
-StepMeans w bytes m S.End = (first (recordChecks m (w .records) bytes) ≡ accepted) × (isEnd (RRecord.recordAt bytes) ≡ true)
-StepMeans w bytes m (S.Refused r place) = first (recordChecks m (w .records) bytes) ≡ refused (named r) place
+StepMeans w bytes m S.End = (first (recordChecks (asked (w .setting)) m (w .records) bytes) ≡ accepted) × (isEnd (RRecord.recordAt bytes) ≡ true)
+StepMeans w bytes m (S.Refused r place) = first (recordChecks (asked (w .setting)) m (w .records) bytes) ≡ refused (named r) place
 
--- of a step that goes on: so many bytes further, one record more
+-- of a step that goes on: so many bytes further, one record more, under the same setting
 abbrev pub StepMoves : Walk → List ℕ → Step → Type 0
 StepMoves w bytes (S.Next v size) =
     (size ≡ 1 + RRecord.bodyLength (RRecord.kindAt bytes)) × (v .records ≡ w .records + 1) × Counted v × (size ≤ length bytes)
+    × (v .setting ≡ w .setting)
 StepMoves w bytes S.End = (RRecord.bodyLength (RRecord.kindAt bytes) ≡ 4) × (5 ≤ length bytes)
 StepMoves w bytes (S.Refused r place) = Unit
 

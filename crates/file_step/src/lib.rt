@@ -5,13 +5,15 @@ use answer::Refusal;
 use gln::Gln;
 use record::Heading;
 use record::Record;
+use setting::Setting;
 ghost use mathlib.Core.Path.{_≡_};
 ghost use Prim.Native.Nat.{_≤_};
 ghost use Rattle.file_step.specs.Walk.{startOf, dueIn, withIn, Few, Steppable, Stepped, movedIn, risenIn, countedIn, judgedIn};
 
-// How far the reading of a file has come: the records before, the heading (H and P are 0 until it is read), how many of each kind, and the number of the
-// last GLN.
+// How far the reading of a file has come: under which setting it is read, the records before, the heading (H and P are 0 until it is read), how many of each
+// kind, and the number of the last GLN.
 pub struct Walk {
+    pub setting: Setting,
     pub records: usize,
     pub heading: Heading,
     pub parties: usize,
@@ -30,10 +32,11 @@ pub enum Step {
 }
 
 // Nothing read yet.
-pub fn start() -> Walk
-    ensures { λ w. ⌜ w ≡ startOf ⌝ }
+pub fn start(setting: Setting) -> Walk
+    ensures { λ w. ⌜ w ≡ startOf setting ⌝ }
 {
     Walk {
+        setting,
         records: 0,
         heading: Heading {
             area: 0,

@@ -72,7 +72,7 @@ module _ {M : Type 1} (𝓤 : URA M) (H : Heap 𝓤) (A : Atoms 𝓤) (W : Given
     mach = T′.lowered d
 
     abbrev kept : Val
-    kept = K′.lowered k
+    kept = LL.val K.the-type K′.the-laws k
 
     -- what is asked, and what the answer has to say
     abbrev Asked : Type 0

@@ -78,7 +78,7 @@ module _ {M : Type 1} (𝓤 : URA M) (H : Heap 𝓤) (A : Atoms 𝓤) (W : Given
     v = sliceAt s
 
     abbrev kept : Val
-    kept = K′.lowered k
+    kept = LL.val K.the-type K′.the-laws k
 
     abbrev at : Vals next-at.signature (κ, tt)
     at = (v ∷ [], (vint w64 n ∷ [], (kept ∷ [], tt)))
