@@ -19,6 +19,7 @@ use Rattle.rules.specs.Gln.{allDigits, weightedSum, validGln}
 use Rattle.rules.specs.Limits.{glnDigits}
 use Rattle.rules.specs.Month.{monthOf, flowsAt, partyAt, priceAt, readingAt, shareOf}
 use Rattle.rules.specs.MonthFile.{P}
+use Rattle.rules.specs.Setting.{provisional}
 use Rattle.rules.proofs.Whole.{every-at, PartyRight, both-pass}
 
 thirteen : (gln : List ℕ) → validGln gln ≡ true → length gln ≡ glnDigits
@@ -30,22 +31,22 @@ thirteen gln v =
 
 module _ (file : List ℕ) (s : Sections) (ok : Accepted file s) where
   pub fixed-read : {t : ℕ} {f : CFlows.Flows} → FixedIs file t f → flowsOf f ≡ flowsAt (monthOf file .fixed) t
-  fixed-read p = p .is (monthOf file) (read-as file s ok)
+  fixed-read p = p .is provisional (monthOf file) (read-as file s ok provisional)
 
   pub refixed-read : {t : ℕ} {f : CFlows.Flows} → RefixedIs file t f → flowsOf f ≡ flowsAt (monthOf file .refixed) t
-  refixed-read p = p .is (monthOf file) (read-as file s ok)
+  refixed-read p = p .is provisional (monthOf file) (read-as file s ok provisional)
 
   pub price-read : {t : ℕ} {z : ℤ} → PriceIs file t z → z ≡ priceAt (monthOf file) t
-  price-read p = p .is (monthOf file) (read-as file s ok)
+  price-read p = p .is provisional (monthOf file) (read-as file s ok provisional)
 
   pub reading-read : {j : ℕ} {x : CReading.Reading} → ReadingIs file j x → readingOf x ≡ readingAt (monthOf file) j
-  reading-read p = p .is (monthOf file) (read-as file s ok)
+  reading-read p = p .is provisional (monthOf file) (read-as file s ok provisional)
 
   pub share-read : {i n : ℕ} → ShareIs file i n → n ≡ shareOf (monthOf file) i
-  share-read p = p .is (monthOf file) (read-as file s ok)
+  share-read p = p .is provisional (monthOf file) (read-as file s ok provisional)
 
   pub gln-read : {i : ℕ} {gln : List ℕ} → GlnIs file i gln → gln ≡ partyAt (monthOf file) i .gln
-  gln-read p = p .is (monthOf file) (read-as file s ok)
+  gln-read p = p .is provisional (monthOf file) (read-as file s ok provisional)
 
   -- "GLN (13)"
   pub gln-length : {i : ℕ} → i < P (monthOf file) → {gln : List ℕ} → GlnIs file i gln → length gln ≡ glnDigits

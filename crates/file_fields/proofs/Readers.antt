@@ -20,6 +20,7 @@ use Rattle.rules.specs.Month.{monthOf, flowsAt, partyAt, priceAt, readingAt, sh
 use Rattle.rules.specs.MonthFile.{MonthFile, H, P, readMonth}
 use Rattle.rules.specs.Record as R
 use Rattle.rules.specs.Refusals.{given}
+use Rattle.rules.specs.Setting.{Setting, provisional}
 use Rattle.rules.proofs.Places.{Standing, Placed, what-is-read-is-placed}
 use Rattle.rules.proofs.Whole as W
 
@@ -42,8 +43,8 @@ module _ (file : List ℕ) (s : Sections) (ok : Accepted file s) where
       let at : (f : Sections → ℕ) → f s ≡ f (sectionsOf m) = λ f. ap f (sections-are file s ok) in
       (at (λ x. x .«parties_at»), at (λ x. x .«fixed_at»), at (λ x. x .«refixed_at»), at (λ x. x .«prices_at»), at (λ x. x .«readings_at»))
 
-  placed : Placed file m (what-is-read-is-placed file (read-as file s ok) .0)
-  placed = what-is-read-is-placed file (read-as file s ok) .1
+  placed : Placed file m (what-is-read-is-placed provisional file (read-as file s ok provisional) .0)
+  placed = what-is-read-is-placed provisional file (read-as file s ok provisional) .1
 
   whole : W.Whole m
   whole = month-whole file s ok
@@ -86,8 +87,8 @@ enough file offset size e b = omega (arith, ap length e ∙ length-drop offset f
 -- Of a file with its sections: room for the record at each place, and what is read there (`OneRecord`).
 module _ (file : List ℕ) (s : Sections) where
   -- what is said of the file's month is said of any month that it is read as
-  said-of : (Says : MonthFile → Type 0) → Says (monthOf file) → (m : MonthFile) → readMonth file ≡ given m → Says m
-  said-of Says it m e = subst Says (month-of file e) it
+  said-of : (Says : MonthFile → Type 0) → Says (monthOf file) → (setting : Setting) (m : MonthFile) → readMonth setting file ≡ given m → Says m
+  said-of Says it setting m e = subst Says (month-of setting file e) it
 
   module _ (t : ℕ) (a : FixedAsked file s t) where
     fixed-here : Standing file (s .«fixed_at» + 36 * t) (R.fixedHour t (flowsAt (monthOf file .fixed) t))

@@ -11,6 +11,7 @@ use Rattle.file_sections.specs.Walk.{Accepted}
 use Rattle.rules.specs.Month.{flowsAt, partyAt, priceAt, readingAt, shareOf}
 use Rattle.rules.specs.MonthFile.{MonthFile, readMonth}
 use Rattle.rules.specs.Refusals.{given}
+use Rattle.rules.specs.Setting.{Setting}
 
 pub record FixedAsked (file : List ℕ) (s : Sections) (t : ℕ) : Type 0 where
   pub accepted : Accepted file s
@@ -32,21 +33,21 @@ pub record PartyAsked (file : List ℕ) (s : Sections) (i : ℕ) : Type 0 where
   pub accepted : Accepted file s
   pub party : i < s .heading .parties
 
--- of the month that the file is read as
+-- of the month that the file is read as, under either setting
 pub record FixedIs (file : List ℕ) (t : ℕ) (f : CFlows.Flows) : Type 0 where
-  pub is : (m : MonthFile) → readMonth file ≡ given m → flowsOf f ≡ flowsAt (m .fixed) t
+  pub is : (setting : Setting) (m : MonthFile) → readMonth setting file ≡ given m → flowsOf f ≡ flowsAt (m .fixed) t
 
 pub record RefixedIs (file : List ℕ) (t : ℕ) (f : CFlows.Flows) : Type 0 where
-  pub is : (m : MonthFile) → readMonth file ≡ given m → flowsOf f ≡ flowsAt (m .refixed) t
+  pub is : (setting : Setting) (m : MonthFile) → readMonth setting file ≡ given m → flowsOf f ≡ flowsAt (m .refixed) t
 
 pub record PriceIs (file : List ℕ) (t : ℕ) (z : ℤ) : Type 0 where
-  pub is : (m : MonthFile) → readMonth file ≡ given m → z ≡ priceAt m t
+  pub is : (setting : Setting) (m : MonthFile) → readMonth setting file ≡ given m → z ≡ priceAt m t
 
 pub record ReadingIs (file : List ℕ) (j : ℕ) (x : CReading.Reading) : Type 0 where
-  pub is : (m : MonthFile) → readMonth file ≡ given m → readingOf x ≡ readingAt m j
+  pub is : (setting : Setting) (m : MonthFile) → readMonth setting file ≡ given m → readingOf x ≡ readingAt m j
 
 pub record ShareIs (file : List ℕ) (i n : ℕ) : Type 0 where
-  pub is : (m : MonthFile) → readMonth file ≡ given m → n ≡ shareOf m i
+  pub is : (setting : Setting) (m : MonthFile) → readMonth setting file ≡ given m → n ≡ shareOf m i
 
 pub record GlnIs (file : List ℕ) (i : ℕ) (gln : List ℕ) : Type 0 where
-  pub is : (m : MonthFile) → readMonth file ≡ given m → gln ≡ partyAt m i .gln
+  pub is : (setting : Setting) (m : MonthFile) → readMonth setting file ≡ given m → gln ≡ partyAt m i .gln
