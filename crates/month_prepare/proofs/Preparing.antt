@@ -11,6 +11,7 @@ use lib.Seq.{take-at}
 use Rattle.file_sections.specs.Walk.{Accepted}
 use Rattle.file_sections.specs.declared.Sections.{Sections}
 use Rattle.file_sections.proofs.AcceptedFile.{month-whole, hours-are, parties-are, refixed-are}
+use Rattle.setting.specs.declared.Setting.{Setting}
 use Rattle.month_prepare.specs.Checks.{MadeIs, PreparedIs}
 use Rattle.month_prepare.specs.declared.Made.{Made}
 use Rattle.month_prepare.specs.declared.Prepared.{Prepared}
@@ -76,13 +77,13 @@ module _ (file : List ℕ) (s : Sections) (ok : Accepted file s) where
 
   -- all parts that were lent are back
   pub prepared :
-      {made : Made} {f r c b fixed refixed curveNumbers begins : List ℕ}
-      → MadeIs (monthOf file) made f r c b
+      {setting : Setting} {made : Made} {f r c b fixed refixed curveNumbers begins : List ℕ}
+      → MadeIs setting (monthOf file) made f r c b
       → Stands (s .heading .hours) mostHours f fixed
       → Stands (s .refixed) mostHours r refixed
       → Stands (s .heading .hours) mostHours c curveNumbers
       → Stands (s .heading .hours + 1) (suc mostHours) b begins
-      → PreparedIs file s (record { made = made; «fixed_wh» = fixed; «refixed_wh» = refixed; curve = curveNumbers; beginnings = begins })
+      → PreparedIs setting file s (record { made = made; «fixed_wh» = fixed; «refixed_wh» = refixed; curve = curveNumbers; beginnings = begins })
   prepared is f r c b =
       record {
         fixed-places = f .size;
@@ -97,7 +98,7 @@ module _ (file : List ℕ) (s : Sections) (ok : Accepted file s) where
       }
 
 -- the parts of a month's arrays that its hours are walked with
-module _ {file : List ℕ} {s : Sections} (ok : Accepted file s) {r : Prepared} (p : PreparedIs file s r) where
+module _ {setting : Setting} {file : List ℕ} {s : Sections} (ok : Accepted file s) {r : Prepared} (p : PreparedIs setting file s r) where
   pub fixed-enough : s .heading .hours ≤ length (r .«fixed_wh»)
   fixed-enough = omega (arith, p .fixed-places, few-hours file s ok)
 
@@ -111,7 +112,7 @@ module _ {file : List ℕ} {s : Sections} (ok : Accepted file s) {r : Prepared} 
   beginnings-enough = omega (arith, p .beginnings-places, few-hours file s ok)
 
   pub as-lent :
-      MadeIs (monthOf file) (r .made)
+      MadeIs setting (monthOf file) (r .made)
       (take (s .heading .hours - 0) (r .«fixed_wh»)) (take (s .refixed - 0) (r .«refixed_wh»))
       (take (s .heading .hours - 0) (r .curve)) (take (s .heading .hours + 1 - 0) (r .beginnings))
   as-lent = rw (sub-zero (s .heading .hours), sub-zero (s .refixed), sub-zero (s .heading .hours + 1)) (p .is)

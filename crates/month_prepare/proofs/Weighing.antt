@@ -1,6 +1,6 @@
--- "Then 6": W by the shares that were read, and the carries that are started with them.
+-- 17 by the setting; "Then 6": W by the shares that were read, and the carries that are started with them.
 use mathlib.Core.List.{List}
-use mathlib.Core.Path.{_≡_, sym, _∙_, ap, subst}
+use mathlib.Core.Path.{_≡_, sym, _∙_, ap, ap₂, subst}
 use Prim.Native.Nat.{ℕ, _-_, _≤_, _<_}
 use native.Mathlib.Omega.{arith}
 use lib.ListN.{length, take}
@@ -14,19 +14,31 @@ use Rattle.distribute.specs.declared.Carries.{Carries}
 use Rattle.distribute.specs.Shares.{wVerdict, FewShares}
 use Rattle.file_sections.specs.Walk.{Accepted}
 use Rattle.file_sections.specs.declared.Sections.{Sections}
-use Rattle.file_sections.proofs.AcceptedFile.{month-whole, parties-are}
-use Rattle.month_prepare.specs.Checks.{WeighedIs}
+use Rattle.file_sections.proofs.AcceptedFile.{month-whole, parties-are, refixed-are}
+use Rattle.setting.specs.Asked.{asked}
+use Rattle.setting.specs.declared.Setting.{Setting}
+use Rattle.month_prepare.specs.Checks.{weighedVerdict, WeighedIs}
 use Rattle.month_prepare.proofs.Preparing.{still-as-many, lent-again, few-parties}
 use Rattle.rules.specs.Flows.{W}
 use Rattle.rules.specs.Limits.{greatestW, greatestShare, mostParties}
-use Rattle.rules.specs.Month.{monthOf, partyAt, shareOf, monthW}
+use Rattle.rules.specs.Month.{monthOf, partyAt, shareOf, monthW, refixedVerdict}
 use Rattle.rules.specs.MonthFile.{MonthFile, P}
-use Rattle.rules.specs.Refusals.{wOutOfRange, unless}
+use Rattle.rules.specs.Refusals.{wOutOfRange, Verdict, unless, andThen}
 use Rattle.rules.specs.Words.{sum, at, within, figures}
 use Rattle.rules.proofs.Loops.{figures-length, figures-at}
-use Rattle.rules.proofs.Refusals.{refused-not-accepted, unless-exactly}
+use Rattle.rules.proofs.Refusals.{refused-not-accepted, both-accept, unless-exactly}
 use Rattle.rules.proofs.Sums.{sum-cong}
 use Rattle.rules.proofs.Whole.{every-at, PartyRight, within-is}
+
+-- the first refusal of two judgements
+module _ {one : Answer} (other : Verdict) where
+  pub first-refuses : {x : Refusal} {place : ℕ} → one ≡ Refused x place → said one ≡ andThen (said one) other
+  unfolding andThen
+  first-refuses e = rw e
+
+  pub other-decides : one ≡ Done → other ≡ andThen (said one) other
+  unfolding andThen
+  other-decides e = rw e
 
 -- the shares that were read into the first of these places, read from there again
 module _
@@ -74,16 +86,24 @@ module _ (file : List ℕ) (s : Sections) (ok : Accepted file s) {shares : List 
   unfolding wVerdict
   weighed-is = ap (λ (w : ℕ). unless (within 1 greatestW w) wOutOfRange 0) w-is
 
-  module _ {answer : Answer} (is : said answer ≡ wVerdict shares) where
-    -- W is refused, and there are no carries
-    pub w-refused : {x : Refusal} {place : ℕ} → answer ≡ Refused x place → (c : Carries) → WeighedIs m (record { answer = answer; carries = c })
+  module _
+      (setting : Setting) {by-setting by-w : Verdict} (answer : Answer)
+      (asks : by-setting ≡ refixedVerdict (asked setting) (s .refixed))
+      (is : by-w ≡ wVerdict shares)
+      (tells : said answer ≡ andThen by-setting by-w) where
+    verdict-is : said answer ≡ weighedVerdict (asked setting) m
+    unfolding weighedVerdict
+    verdict-is = tells ∙ ap₂ andThen (asks ∙ ap (refixedVerdict (asked setting)) (refixed-are file s ok)) (is ∙ weighed-is)
+
+    -- the setting or W is refused, and there are no carries
+    pub w-refused : {x : Refusal} {place : ℕ} → answer ≡ Refused x place → (c : Carries) → WeighedIs setting m (record { answer = answer; carries = c })
     w-refused e c =
-        record { verdict = is ∙ weighed-is; started = λ a. absurd (refused-not-accepted (sym (ap said e) ∙ a)) }
+        record { verdict = verdict-is; started = λ a. absurd (refused-not-accepted (sym (ap said e) ∙ a)) }
 
     module _ (done : answer ≡ Done) where
       w-in-range : (1 ≤ monthW m) × (monthW m ≤ greatestW)
       w-in-range =
-          within-is 1 greatestW (monthW m) (unless-exactly _ _ _ .0 (sym weighed-is ∙ sym is ∙ ap said done))
+          within-is 1 greatestW (monthW m) (unless-exactly _ _ _ .0 (sym weighed-is ∙ sym is ∙ both-accept by-setting by-w (sym tells ∙ ap said done) .1))
 
       -- the shares have a W that carries can be started with
       pub startable : Startable shares
@@ -92,6 +112,6 @@ module _ (file : List ℕ) (s : Sections) (ok : Accepted file s) {shares : List 
           let w-fits : W (length shares) (at shares) ≤ greatestW = omega (arith, w-is, w-in-range .1) in
           record { few = omega (arith, shares-many, few); some = some; w-fits = w-fits }
 
-      pub w-started : {c : Carries} → Started shares c → WeighedIs m (record { answer = answer; carries = c })
+      pub w-started : {c : Carries} → Started shares c → WeighedIs setting m (record { answer = answer; carries = c })
       w-started {c} started =
-          record { verdict = is ∙ weighed-is; started = λ a. subst (λ (l : List ℕ). Started l c) are started }
+          record { verdict = verdict-is; started = λ a. subst (λ (l : List ℕ). Started l c) are started }

@@ -1,5 +1,5 @@
--- The refusals after a file is read, up to the readings (01 "Refusal numbers"): "Then 6; then the fixed hours in order, each 7, 8, 9; the refixed hours
--- likewise; 10 by hour; 13 by reading"; and what is made on the way.
+-- The refusals after a file is read, up to the readings (01 "Refusal numbers"; 02, W1): 17; "Then 6; then the fixed hours in order, each 7, 8, 9; the refixed
+-- hours likewise; 10 by hour; 13 by reading"; and what is made on the way. The setting decides the verdict; no figure depends on it.
 use mathlib.Core.List.{List}
 use mathlib.Core.Path.{_≡_}
 use Prim.Native.Nat.{ℕ, suc, _+_, _-_, _≤_, _<_}
@@ -13,13 +13,16 @@ use Rattle.month_prepare.specs.declared.Prepared.{Prepared}
 use Rattle.month_prepare.specs.declared.Weighed.{Weighed}
 use Rattle.file_sections.specs.Walk.{Accepted}
 use Rattle.file_sections.specs.declared.Sections.{Sections}
+use Rattle.setting.specs.Asked.{asked}
+use Rattle.setting.specs.declared.Setting.{Setting}
 use Rattle.month_series.specs.Series.{residualAt, judgedVerdict, beginningsOf}
 use Rattle.month_series.specs.declared.Judged.{Judged}
 use Rattle.month_series.specs.declared.Judged.the-variants.{Figures}
 use Rattle.rules.specs.Limits.{greatestW, greatestCurveNumber, mostHours, mostParties}
-use Rattle.rules.specs.Month.{monthOf, shareOf, monthW, fixedWh, curve, estimatedHours, hourVerdict, curveVerdict, readingVerdict}
+use Rattle.rules.specs.Month.{monthOf, shareOf, monthW, fixedWh, curve, estimatedHours, refixedVerdict, hourVerdict, curveVerdict, readingVerdict}
 use Rattle.rules.specs.MonthFile.{MonthFile, H, P}
 use Rattle.rules.specs.Refusals.{wOutOfRange, Verdict, accepted, unless, andThen, inTurn}
+use Rattle.rules.specs.Setting as R
 use Rattle.rules.specs.Words as Words
 use Rattle.rules.proofs.Month as M
 
@@ -27,19 +30,23 @@ use Rattle.rules.proofs.Month as M
 unfoldable pub hoursVerdict : MonthFile → Verdict
 hoursVerdict m = andThen (inTurn (H m) (hourVerdict (m .fixed))) (inTurn (length (m .refixed)) (hourVerdict (m .refixed)))
 
--- "6; then the fixed hours in order, each 7, 8, 9; the refixed hours likewise"
-unfoldable pub seriesVerdict : MonthFile → Verdict
-seriesVerdict m =
-    andThen (unless (Words.within 1 greatestW (monthW m)) wOutOfRange 0)
-    (hoursVerdict m)
+-- W1: 17 "after the file is read and before 6"; "Then 6"
+unfoldable pub weighedVerdict : R.Setting → MonthFile → Verdict
+weighedVerdict setting m =
+    andThen (refixedVerdict setting (length (m .refixed)))
+    (unless (Words.within 1 greatestW (monthW m)) wOutOfRange 0)
+
+-- "then the fixed hours in order, each 7, 8, 9; the refixed hours likewise"
+unfoldable pub seriesVerdict : R.Setting → MonthFile → Verdict
+seriesVerdict setting m = andThen (weighedVerdict setting m) (hoursVerdict m)
 
 -- "10 by hour; 13 by reading"
 unfoldable pub curveReadingsVerdict : MonthFile → Verdict
 curveReadingsVerdict m = andThen (inTurn (H m) (curveVerdict m)) (inTurn (length (m .readings)) (readingVerdict m))
 
 -- every check before the hours
-unfoldable pub makingVerdict : MonthFile → Verdict
-makingVerdict m = andThen (seriesVerdict m) (curveReadingsVerdict m)
+unfoldable pub makingVerdict : R.Setting → MonthFile → Verdict
+makingVerdict setting m = andThen (seriesVerdict setting m) (curveReadingsVerdict m)
 
 pub record BothAsked (file : List ℕ) (s : Sections) (fixed refixed : ℕ) : Type 0 where
   pub accepted : Accepted file s
@@ -52,9 +59,9 @@ pub record BothKnown (m : MonthFile) (r : Judged) (fixed refixed : List ℕ) : T
   pub refixed-is : judgedVerdict r ≡ accepted → refixed ≡ Words.figures (length (m .refixed)) (residualAt (m .refixed))
   pub estimated : (n : ℕ) → r ≡ Figures n → n ≡ estimatedHours m
 
--- "Then 6": W, and the carries before the first hour
-pub record WeighedIs (m : MonthFile) (r : Weighed) : Type 0 where
-  pub verdict : said (r .answer) ≡ unless (Words.within 1 greatestW (monthW m)) wOutOfRange 0
+-- 17, "Then 6": the setting, W, and the carries before the first hour
+pub record WeighedIs (setting : Setting) (m : MonthFile) (r : Weighed) : Type 0 where
+  pub verdict : said (r .answer) ≡ weighedVerdict (asked setting) m
   pub started : said (r .answer) ≡ accepted → Started (Words.figures (P m) (shareOf m)) (r .carries)
 
 -- what the curve is made of: hours that are judged, and W
@@ -104,12 +111,12 @@ pub record Making (m : MonthFile) (r : Made) (fixed refixed curveNumbers beginni
   pub curve-fits : (t : ℕ) → t < H m → curve m t ≤ greatestCurveNumber
   pub beginnings-are : beginnings ≡ beginningsOf m
 
-pub record MadeIs (m : MonthFile) (r : Made) (fixed refixed curveNumbers beginnings : List ℕ) : Type 0 where
-  pub verdict : said (r .answer) ≡ makingVerdict m
+pub record MadeIs (setting : Setting) (m : MonthFile) (r : Made) (fixed refixed curveNumbers beginnings : List ℕ) : Type 0 where
+  pub verdict : said (r .answer) ≡ makingVerdict (asked setting) m
   pub made : said (r .answer) ≡ accepted → Making m r fixed refixed curveNumbers beginnings
 
 -- the same, of arrays with a place for each hour that a month can have; behind those of the month each place has 0
-pub record PreparedIs (file : List ℕ) (s : Sections) (r : Prepared) : Type 0 where
+pub record PreparedIs (setting : Setting) (file : List ℕ) (s : Sections) (r : Prepared) : Type 0 where
   pub fixed-places : length (r .«fixed_wh») ≡ mostHours
   pub refixed-places : length (r .«refixed_wh») ≡ mostHours
   pub curve-places : length (r .curve) ≡ mostHours
@@ -119,6 +126,6 @@ pub record PreparedIs (file : List ℕ) (s : Sections) (r : Prepared) : Type 0 w
   pub curve-past : drop (s .heading .hours) (r .curve) ≡ replicate (mostHours - s .heading .hours) 0
   pub beginnings-past : drop (s .heading .hours + 1) (r .beginnings) ≡ replicate (suc mostHours - (s .heading .hours + 1)) 0
   pub is :
-      MadeIs (monthOf file) (r .made)
+      MadeIs setting (monthOf file) (r .made)
       (take (s .heading .hours) (r .«fixed_wh»)) (take (s .refixed) (r .«refixed_wh»))
       (take (s .heading .hours) (r .curve)) (take (s .heading .hours + 1) (r .beginnings))

@@ -1,5 +1,5 @@
 -- `month_prepare::make` meets its contract: `Making` says what each check leaves. Assumes nothing.
-use Rattle.month_prepare.proofs.Making.{w-refuses, series-refuse, curve-asked, all-made}
+use Rattle.month_prepare.proofs.Making.{not-begun, series-refuse, curve-asked, all-made}
 use borrow.Author.Needs.{needs}
 use Rattle.month_prepare.proofs.make.Statement.{statement}
 use Rattle.month_prepare.proofs.make.Tie as tie
@@ -36,7 +36,7 @@ enum-told-2 c = search needs
 returns : tie.Need-returns
 returns c =
     let weighed = c .before .before .before in
-    w-refuses _ _ (begins weighed .pre .accepted) (weighed .weigh .ensures) (c .enum-told2 .given .1) _ _ _ _ _
+    not-begun _ _ _ (begins weighed .pre .accepted) (weighed .weigh .ensures) (c .enum-told2 .given .1) _ _ _ _ _
 
 both-series-requires : tie.Need-both-series-requires
 both-series-requires c κs = search needs
@@ -54,7 +54,7 @@ curve-and-readings-requires c κs =
     let right = weighs series in
     let weighed = right .before .before .before in
     let start = begins weighed in
-    curve-asked _ _ (start .pre .accepted) (weighed .weigh .ensures) (right .enum-told .given .1)
+    curve-asked _ _ _ (start .pre .accepted) (weighed .weigh .ensures) (right .enum-told .given .1)
     (series .both-series .ensures) (told .before .judged2 .given .1)
     (start .pre .curve-size) (start .pre .beginnings-size)
 
@@ -69,7 +69,7 @@ returns-2 c =
     let series = refuses c in
     let right = weighs series in
     let weighed = right .before .before .before in
-    series-refuse _ _ (begins weighed .pre .accepted) (weighed .weigh .ensures) (right .enum-told .given .1)
+    series-refuse _ _ _ (begins weighed .pre .accepted) (weighed .weigh .ensures) (right .enum-told .given .1)
     (series .both-series .ensures) (c .before .judged .given .1) _ _ _
 
 same-length-3 : tie.Need-same-length-3
@@ -91,7 +91,7 @@ returns-3 c =
     let series = judges told in
     let right = weighs series in
     let weighed = right .before .before .before in
-    all-made _ _ (begins weighed .pre .accepted) (weighed .weigh .ensures) (right .enum-told .given .1)
+    all-made _ _ _ (begins weighed .pre .accepted) (weighed .weigh .ensures) (right .enum-told .given .1)
     (series .both-series .ensures) (told .before .judged2 .given .1) _ (made .curve-and-readings .ensures)
 
 pub make-spec : {M : Type 1} → statement M

@@ -1,4 +1,4 @@
--- `month_prepare::weigh` meets its contract: `Weighing` says what W decides. Assumes nothing.
+-- `month_prepare::weigh` meets its contract: `Weighing` says what the setting and W decide. Assumes nothing.
 use native.Mathlib.Omega.{arith}
 use Rattle.rules.specs.Limits.{mostParties}
 use Rattle.month_prepare.proofs.Preparing.{so-many, few-parties}
@@ -14,14 +14,20 @@ use Rattle.month_prepare.proofs.nothing_carried.Reads as nothing-carrie
 use Rattle.month_prepare.proofs.party_places.Reads as party-places-reads
 use Rattle.month_series.proofs.shares.Reads as shares-reads
 
+abbrev asks : tie.After-shares2 → tie.After-refixed-or-provisional
+asks c = c .before .before .before .before
+
 abbrev begins : tie.After-shares2 → tie.Start
-begins c = c .before .before .before .before .before
+begins c = asks c .before .before
 
 abbrev lends : tie.After-shares3 → tie.After-party-places
 lends c = c .before .before .before
 
-abbrev fills : tie.After-w-in-range → tie.After-shares3
-fills c = c .before .before .before
+abbrev fills : tie.After-first-of → tie.After-shares3
+fills c = c .before .before .before .before
+
+refixed-or-provisional-requires : tie.Need-refixed-or-provisional-requires
+refixed-or-provisional-requires c κs = search needs
 
 cast-n : tie.Need-cast-n
 cast-n c = search needs
@@ -36,7 +42,7 @@ part-shares-start : tie.Need-part-shares-start
 part-shares-start c = search needs
 
 part-shares-end : tie.Need-part-shares-end
-part-shares-end c = omega (arith, so-many mostParties (c .party-places .ensures), few-parties _ _ (c .before .before .before .pre))
+part-shares-end c = omega (arith, so-many mostParties (c .party-places .ensures), few-parties _ _ (c .before .before .before .before .pre))
 
 shares-requires : tie.Need-shares-requires
 shares-requires c κs = search needs
@@ -62,6 +68,9 @@ w-in-range-requires c κs =
     few-shares _ _ (start .pre)
     (read-again _ _ (start .pre) _ _ (so-many mostParties (lends filled .party-places .ensures)) (filled .shares3 .given) (shares .shares2 .ensures))
 
+first-of-requires : tie.Need-first-of-requires
+first-of-requires c κs = search needs
+
 enum-told : tie.Need-enum-told
 enum-told c = search needs
 
@@ -79,7 +88,7 @@ returns c =
     let start = begins shares in
     w-refused _ _ (start .pre)
     (read-again _ _ (start .pre) _ _ (so-many mostParties (lends filled .party-places .ensures)) (filled .shares3 .given) (shares .shares2 .ensures))
-    (told .w-in-range .ensures) (c .before .enum-told2 .given .1) _
+    (start .args .setting) _ (asks shares .refixed-or-provisional .ensures) (told .before .w-in-range .ensures) (told .first-of .ensures) (c .before .enum-told2 .given .1) _
 
 sub-start : tie.Need-sub-start
 sub-start c = search needs
@@ -103,7 +112,7 @@ start-requires c κs =
     let start = begins shares in
     startable _ _ (start .pre)
     (read-again _ _ (start .pre) _ _ (so-many mostParties (lends filled .party-places .ensures)) (filled .shares3 .given) (shares .shares2 .ensures))
-    (told .w-in-range .ensures) (right .enum-told .given .1)
+    (start .args .setting) _ (asks shares .refixed-or-provisional .ensures) (told .before .w-in-range .ensures) (told .first-of .ensures) (right .enum-told .given .1)
 
 returns-2 : tie.Need-returns-2
 returns-2 c =
@@ -114,12 +123,13 @@ returns-2 c =
     let start = begins shares in
     w-started _ _ (start .pre)
     (read-again _ _ (start .pre) _ _ (so-many mostParties (lends filled .party-places .ensures)) (filled .shares3 .given) (shares .shares2 .ensures))
-    (told .w-in-range .ensures) (right .enum-told .given .1) (c .start .ensures)
+    (start .args .setting) _ (asks shares .refixed-or-provisional .ensures) (told .before .w-in-range .ensures) (told .first-of .ensures) (right .enum-told .given .1) (c .start .ensures)
 
 pub weigh-spec : {M : Type 1} → statement M
 weigh-spec =
     tie.close
     (tie.spec
+    refixed-or-provisional-requires
     cast-n
     party-places-requires
     sub-shares
@@ -130,6 +140,7 @@ weigh-spec =
     part-w-in-range-start
     part-w-in-range-end
     w-in-range-requires
+    first-of-requires
     enum-told
     enum-told-2
     nothing-carried-requires
