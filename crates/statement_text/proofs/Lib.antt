@@ -1,4 +1,3 @@
 pub mod PartyLines
 pub mod Statements
-pub mod Texts
 pub mod Unique

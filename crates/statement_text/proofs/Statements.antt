@@ -17,11 +17,15 @@ use Rattle.file_sections.specs.Walk.{Accepted}
 use Rattle.file_sections.specs.declared.Sections.{Sections}
 use Rattle.file_sections.proofs.AcceptedFile.{read-as, heading-text}
 use Rattle.file_sections.proofs.Walking.{too-long}
+use Rattle.hour_settled.specs.declared.Sums.{Sums}
 use Rattle.rules.specs.Limits.{mostParties, longestFile}
-use Rattle.rules.specs.Month.{monthOf, monthVerdict, verdictOn, fileVerdict}
+use Rattle.rules.specs.Month.{monthOf, monthVerdict, estimatedHours, verdictOn, fileVerdict}
 use Rattle.rules.specs.MonthFile.{MonthFile, readMonth}
 use Rattle.rules.specs.Refusals as R
+use Rattle.rules.specs.Setting as Run
 use Rattle.rules.specs.Statement as T
+use Rattle.setting.specs.Asked.{asked}
+use Rattle.setting.specs.declared.Setting.{Setting}
 use Rattle.statement_text.specs.Lines.{Settled, allPartyLines, statementRoom}
 use Rattle.statement_text.specs.Stating.{told, textVerdict, Promised}
 use Rattle.statement_text.specs.declared.Stated.the-variants as S
@@ -29,85 +33,91 @@ use Rattle.statement_lines.specs.Rooms.{headingRoom, columnsRoom}
 use Rattle.text.specs.Text.{Put, LinePut, atStart}
 use Rattle.text.proofs.Puts.{put-then, put-as, put-length, put-at-start}
 
-module _ (file : List ℕ) (s : Sections) (ok : Accepted file s) {outcome : Outcome} (is : OutcomeIs (monthOf file) outcome) (done : outcome .answer ≡ Done) where
-  abbrev m : MonthFile
-  m = monthOf file
-
-  no-refusal : monthVerdict m ≡ R.accepted
-  no-refusal = sym (is .verdict) ∙ ap said done
-
-  pub settled : Settled file s (outcome .sums)
-  settled = record { read = ok; no-refusal = no-refusal; sums-are = is .sums (ap said done) }
-
-  -- THE LINES ONE AFTER THE OTHER
-  module _ {before out₁ : List ℕ} {end₁ : ℕ} (h : Put (T.headingText (s .heading .area) (s .heading .year) (s .heading .month) (s .heading .hours) (s .heading .parties) (outcome .estimated)) before 0 out₁ end₁)
+-- THE LINES ONE AFTER THE OTHER
+module _ (file : List ℕ) (s : Sections) {sums : Sums} (settled : Settled file s sums) {estimated : ℕ} (counted : estimated ≡ estimatedHours (monthOf file)) where
+  module _ {before out₁ : List ℕ} {end₁ : ℕ} (h : Put (T.headingText (s .heading .area) (s .heading .year) (s .heading .month) (s .heading .hours) (s .heading .parties) estimated (s .refixed)) before 0 out₁ end₁)
       (h-within : end₁ ≤ 0 + headingRoom) where
     pub room-for-parties : statementRoom ≤ length before → end₁ + mostParties * columnsRoom ≤ length out₁
     room-for-parties room = omega (arith, put-length h)
 
-    module _ {out₂ : List ℕ} {end₂ : ℕ} (p : LinePut (allPartyLines m) out₁ end₁ (mostParties * columnsRoom) out₂ end₂) where
+    module _ {out₂ : List ℕ} {end₂ : ℕ} (p : LinePut (allPartyLines (monthOf file)) out₁ end₁ (mostParties * columnsRoom) out₂ end₂) where
       pub room-for-total : statementRoom ≤ length before → end₂ + columnsRoom ≤ length out₂
       room-for-total room = omega (arith, put-length h, put-length (p .put), p .within)
 
-      pub all-lines : {after : List ℕ} {end : ℕ} → LinePut (T.totalLine m) out₂ end₂ columnsRoom after end → LinePut (T.statementLines m) before 0 statementRoom after end
+      pub all-lines : {after : List ℕ} {end : ℕ} → LinePut (T.totalLine (monthOf file)) out₂ end₂ columnsRoom after end → LinePut (T.statementLines (monthOf file)) before 0 statementRoom after end
       unfolding T.statementLines
       all-lines t =
           record {
-            put = put-then (put-then (put-as (heading-text file s ok (is .estimated (ap said done))) h) (p .put)) (t .put);
+            put = put-then (put-then (put-as (heading-text file s (settled .read) counted) h) (p .put)) (t .put);
             within = omega (arith, p .within, t .within);
           }
 
+-- A MONTH THAT WAS ACCEPTED
+module _ (setting : Setting) (file : List ℕ) (s : Sections) (ok : Accepted file s) {outcome : Outcome} (is : OutcomeIs setting (monthOf file) outcome) (done : outcome .answer ≡ Done) where
+  abbrev m : MonthFile
+  m = monthOf file
+
+  no-refusal : monthVerdict (asked setting) m ≡ R.accepted
+  no-refusal = sym (is .verdict) ∙ ap said done
+
+  pub settled : Settled file s (outcome .sums)
+  settled = record { setting = asked setting; read = ok; no-refusal = no-refusal; sums-are = is .sums (ap said done) }
+
+  pub counted : outcome .estimated ≡ estimatedHours m
+  counted = is .estimated (ap said done)
+
   -- THE STATEMENT OF THE FILE IS THESE LINES
-  statement-is : T.statement file ≡ T.statementLines m
+  statement-is : T.statement (asked setting) file ≡ T.statementLines m
   unfolding T.statement T.answeredStatement T.judgedStatement
-  statement-is = ap T.answeredStatement (read-as file s ok) ∙ ap (T.judgedStatement m) no-refusal
+  statement-is = ap (T.answeredStatement (asked setting)) (read-as file s ok (asked setting)) ∙ ap (T.judgedStatement m) no-refusal
 
-  file-accepted : fileVerdict file ≡ R.accepted
+  file-accepted : fileVerdict (asked setting) file ≡ R.accepted
   unfolding fileVerdict verdictOn
-  file-accepted = ap verdictOn (read-as file s ok) ∙ no-refusal
+  file-accepted = ap (verdictOn (asked setting)) (read-as file s ok (asked setting)) ∙ no-refusal
 
-  text-verdict : (lent : ℕ) → textVerdict file lent ≡ R.unless (leb statementRoom lent) R.wrongLength 0
+  text-verdict : (lent : ℕ) → textVerdict setting file lent ≡ R.unless (leb statementRoom lent) R.wrongLength 0
   unfolding textVerdict R.andThen
   text-verdict lent = ap (λ (v : R.Verdict). R.andThen v (R.unless (leb statementRoom lent) R.wrongLength 0)) file-accepted
 
   pub too-short :
-      (lent : ℕ) → lent < statementRoom → told (S.Refused WrongLength 0) ≡ R.answer (textVerdict file lent) (length (T.statement file))
+      (lent : ℕ) → lent < statementRoom → told (S.Refused WrongLength 0) ≡ R.answer (textVerdict setting file lent) (length (T.statement (asked setting) file))
   unfolding R.answer R.unless
   too-short lent b =
-      let v : textVerdict file lent ≡ R.refused R.wrongLength 0 =
+      let v : textVerdict setting file lent ≡ R.refused R.wrongLength 0 =
       text-verdict lent ∙ ap (λ (t : Bool). R.unless t R.wrongLength 0) (lt-leb statementRoom lent b) in
-      ap (λ (w : R.Verdict). R.answer w (length (T.statement file))) (sym v)
+      ap (λ (w : R.Verdict). R.answer w (length (T.statement (asked setting) file))) (sym v)
 
-  pub stated : {old new : List ℕ} {n : ℕ} → statementRoom ≤ length old → LinePut (T.statementLines m) old 0 statementRoom new n → Promised file old (S.Lines n) new
+  pub stated : {old new : List ℕ} {n : ℕ} → statementRoom ≤ length old → LinePut (T.statementLines m) old 0 statementRoom new n → Promised setting file old (S.Lines n) new
   unfolding R.answer R.afterwards R.unless atStart
   stated {old} {new} {n} room l =
-      let v : textVerdict file (length old) ≡ R.accepted =
+      let v : textVerdict setting file (length old) ≡ R.accepted =
       text-verdict (length old) ∙ ap (λ (t : Bool). R.unless t R.wrongLength 0) (le-leb statementRoom (length old) room) in
       record {
         answer =
             ap R.given (omega (arith, l .put .ends) ∙ ap length (sym statement-is))
-            ∙ ap (λ (w : R.Verdict). R.answer w (length (T.statement file))) (sym v);
+            ∙ ap (λ (w : R.Verdict). R.answer w (length (T.statement (asked setting) file))) (sym v);
         contents = put-at-start (l .put) (omega (arith, l .within)) ∙ ap (λ (t : List ℕ). t ++ drop (length t) old) (sym statement-is);
       }
 
 -- a refused file: nothing is written
-pub refused-file : (file : List ℕ) (x : Refusal) (place : ℕ) (old : List ℕ) → fileVerdict file ≡ R.refused (named x) place → Promised file old (S.Refused x place) old
+pub refused-file : (setting : Setting) (file : List ℕ) (x : Refusal) (place : ℕ) (old : List ℕ) → fileVerdict (asked setting) file ≡ R.refused (named x) place → Promised setting file old (S.Refused x place) old
 unfolding R.answer R.afterwards textVerdict R.andThen
-refused-file file x place old e =
-    let v : textVerdict file (length old) ≡ R.refused (named x) place =
+refused-file setting file x place old e =
+    let v : textVerdict setting file (length old) ≡ R.refused (named x) place =
     ap (λ (w : R.Verdict). R.andThen w (R.unless (leb statementRoom (length old)) R.wrongLength 0)) e in
-    record { answer = ap (λ (w : R.Verdict). R.answer w (length (T.statement file))) (sym v); contents = refl }
+    record { answer = ap (λ (w : R.Verdict). R.answer w (length (T.statement (asked setting) file))) (sym v); contents = refl }
 
 -- and its statement is its refusal line
-pub refusal-text : (file : List ℕ) {r : R.Refusal} {place : ℕ} → fileVerdict file ≡ R.refused r place → T.statement file ≡ T.refusalLine r place
+pub refusal-text :
+    (setting : Run.Setting) (file : List ℕ) {r : R.Refusal} {place : ℕ} → fileVerdict setting file ≡ R.refused r place → T.statement setting file ≡ T.refusalLine r place
 unfolding fileVerdict verdictOn T.statement T.answeredStatement T.judgedStatement
-refusal-text file {r} {place} e = go (readMonth file) e
+refusal-text setting file {r} {place} e = go (readMonth setting file) e
   where
-    go : (a : R.Answer MonthFile) → verdictOn a ≡ R.refused r place → T.answeredStatement a ≡ T.refusalLine r place
+    go : (a : R.Answer MonthFile) → verdictOn setting a ≡ R.refused r place → T.answeredStatement setting a ≡ T.refusalLine r place
     go (R.given m) f = ap (T.judgedStatement m) f
     go (R.refusal x q) f = let same : x ≡ r = cc in let at : q ≡ place = cc in ap₂ T.refusalLine same at
 
 -- "An empty or too long file is refused before all else, place 0": the same line for every file that long
-pub too-long-line : (file : List ℕ) → longestFile < length file → T.statement file ≡ T.refusalLine R.fileFault 0
+pub too-long-line : (setting : Run.Setting) (file : List ℕ) → longestFile < length file → T.statement setting file ≡ T.refusalLine R.fileFault 0
 unfolding T.statement T.answeredStatement
-too-long-line file long = ap T.answeredStatement (sym (too-long file (omega arith) long))
+too-long-line setting file long = ap (T.answeredStatement setting) (sym (too-long setting file (omega arith) long))

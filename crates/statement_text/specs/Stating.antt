@@ -1,4 +1,4 @@
--- The promise of the statement's text: from the bytes of a file to the bytes of its statement, or the refusal.
+-- The promise of the statement's text: from the setting and the bytes of a file to the bytes of its statement, or the refusal.
 use mathlib.Core.List.{List}
 use mathlib.Core.Path.{_≡_}
 use Prim.Native.Nat.{ℕ}
@@ -8,6 +8,8 @@ use Rattle.answer.specs.Said.{named}
 use Rattle.rules.specs.Month.{fileVerdict}
 use Rattle.rules.specs.Refusals as R
 use Rattle.rules.specs.Statement as T
+use Rattle.setting.specs.Asked.{asked}
+use Rattle.setting.specs.declared.Setting.{Setting}
 use Rattle.statement_text.specs.Lines.{statementRoom}
 use Rattle.statement_text.specs.declared.Stated.{Stated}
 use Rattle.statement_text.specs.declared.Stated.the-variants.{Lines, Refused}
@@ -22,10 +24,10 @@ told (Lines n) = R.given n
 told (Refused r place) = R.refusal (named r) place
 
 -- the refusals of the file, and last 16: a lent buffer shorter than the longest statement
-unfoldable pub textVerdict : List ℕ → ℕ → R.Verdict
-textVerdict file lent = R.andThen (fileVerdict file) (R.unless (leb statementRoom lent) R.wrongLength 0)
+unfoldable pub textVerdict : Setting → List ℕ → ℕ → R.Verdict
+textVerdict setting file lent = R.andThen (fileVerdict (asked setting) file) (R.unless (leb statementRoom lent) R.wrongLength 0)
 
 -- THE PROMISE: so many bytes at the start of the lent buffer are the statement of the file, and nothing further on is touched; refused, nothing is
-pub record Promised (file old : List ℕ) (r : Stated) (new : List ℕ) : Type 0 where
-  pub answer : told r ≡ R.answer (textVerdict file (length old)) (length (T.statement file))
-  pub contents : new ≡ R.afterwards (verdict r) (atStart (T.statement file) old) old
+pub record Promised (setting : Setting) (file old : List ℕ) (r : Stated) (new : List ℕ) : Type 0 where
+  pub answer : told r ≡ R.answer (textVerdict setting file (length old)) (length (T.statement (asked setting) file))
+  pub contents : new ≡ R.afterwards (verdict r) (atStart (T.statement (asked setting) file) old) old
