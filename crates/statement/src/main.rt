@@ -1,55 +1,28 @@
-// THE STATEMENT PROGRAM (01 "The statement program"): it reads one month file from standard input and prints its statement, or `refused N at P`.
+// THE STATEMENT PROGRAM (01 "The statement program"): it reads one month file from standard input and prints its statement, or `refused N at P`. 02, W1: it "keeps
+// final as its setting", so a month with no 06 records is refused.
 //
-// What is proved of it: it is safe and ends, given that each read and write returns; and the text that it makes for printing is the
+// What is proved of it: it is safe and ends, given that each read and write returns; and the text that it makes for printing is the final
 // statement of the bytes read, and of an input that is too long that of any bytes so long. That the bytes read are those of standard input, and that the text arrives, no
 // contract can say: those of `libc::read` and `libc::write` speak of the count of one call alone. tests/streams tries it.
 use libc::STDERR_FILENO;
 use libc::STDOUT_FILENO;
+use setting::Setting;
 use standard_input::Ending;
-use statement_text::Stated;
 ghost use lib.ListN.{length, take};
-ghost use mathlib.Core.Path.{_≡_};
 ghost use Prim.Native.Nat.{_≤_};
+ghost use Rattle.rules.specs.Setting.{final};
 ghost use Rattle.rules.specs.Statement.{statement};
 ghost use Rattle.standard_input.specs.Reading.{FullyRead, TextOf};
 ghost use Rattle.statement_text.specs.Lines.{statementRoom};
 
-// The most bytes of a statement.
-const ROOM: usize = statement_text::STATEMENT_ROOM;
-
-// The buffer for the statement.
-fn room() -> [u8; ROOM]
-    ensures { λ r. ⌜ statementRoom ≡ length r ⌝ }
-{
-    [0; ROOM]
-}
-
-// The text of a file at the start of `out`: THE STATEMENT OF THE FILE. A refusal goes to the line that is printed of it; an accepted month's lines are there already.
-fn file_text(file: &[u8], out: &mut [u8]) -> usize
-    requires { ⌜ statementRoom ≤ length (now out) ⌝ }
-    ensures within { λ n. ⌜ n ≤ length (now (out .exit)) ⌝ }
-    ensures text { λ n. ⌜ take n (now (out .exit)) ≡ statement (now (file .entry)) ⌝ }
-{
-    let stated = statement_text::statement(file, out);
-    let Stated::Lines(n) = stated else {
-        return statement_text::refusal_line(stated, out);
-    };
-    n
-}
-
-// The text of an input at the start of `out`, by how its reading ended: THE STATEMENT OF THE INPUT. Of one that is too long it is the same line, whatever its bytes;
-// one that could not be read has none.
+// The text of an input at the start of `out`, by how its reading ended: THE FINAL STATEMENT OF THE INPUT.
 fn input_text(ending: Ending, file: &[u8], out: &mut [u8]) -> usize
     requires { ⌜ FullyRead ending (now file) ⌝ }
     requires { ⌜ statementRoom ≤ length (now out) ⌝ }
     ensures within { λ n. ⌜ n ≤ length (now (out .exit)) ⌝ }
-    ensures text { λ n. ⌜ TextOf statement ending (now (file .entry)) (take n (now (out .exit))) ⌝ }
+    ensures text { λ n. ⌜ TextOf (statement final) ending (now (file .entry)) (take n (now (out .exit))) ⌝ }
 {
-    match ending {
-        Ending::Whole => file_text(file, out),
-        Ending::TooLong => standard_input::refusal_line(ending, out),
-        Ending::Failed => 0,
-    }
+    statement_input::input_text(ending, file, Setting::Final, out)
 }
 
 // Says a failure on standard error; where that fails too, there is nowhere left to say it. A program has no exit status: a failure is told here alone, with no
@@ -70,7 +43,7 @@ fn print(text: &[u8]) {
 fn print_input(ending: Ending, file: &[u8])
     requires { ⌜ FullyRead ending (now file) ⌝ }
 {
-    let mut out = room();
+    let mut out = statement_input::room();
     let n = input_text(ending, file, &mut out);
     print(&out[0..n]);
 }

@@ -1,62 +1,21 @@
--- `statement::input_text` meets its contract: what is printed is the statement of the input, however its reading ended. Assumes nothing.
-use Prim.Native.Nat.{zero-le}
-use Rattle.rules.specs.Statement as T
-use Rattle.standard_input.proofs.Endings.{whole-text, too-long-text, failed-text}
-use Rattle.statement_text.proofs.Statements.{too-long-line}
-use Rattle.text.proofs.Stands.{line-stands}
+-- `statement::input_text` meets its contract: what is printed is the final statement of the input, however its reading ended. Assumes nothing.
+use Rattle.rules.specs.Setting.{final}
+use Rattle.statement_input.proofs.Texts.{input-printed}
 use borrow.Author.Needs.{needs}
 use Rattle.statement.proofs.input_text.Statement.{statement}
 use Rattle.statement.proofs.input_text.Tie as tie
 
-enum-told : tie.Need-enum-told
-enum-told c = search needs
-
-file-text-requires : tie.Need-file-text-requires
-file-text-requires c κs = search needs
-
-enum-told-2 : tie.Need-enum-told-2
-enum-told-2 c = search needs
-
-refusal-line-requires : tie.Need-refusal-line-requires
-refusal-line-requires c κs = search needs
-
-enum-told-3 : tie.Need-enum-told-3
-enum-told-3 c = search needs
+input-text-requires : tie.Need-input-text-requires
+input-text-requires c κs = search needs
 
 same-length : tie.Need-same-length
 same-length c = search needs
 
 returns : tie.Need-returns
 returns c =
-    let after-file-text = c .before .before in
-    let ending-told = after-file-text .before .before in
-    (after-file-text .file-text .ensures .0, whole-text T.statement _ (ending-told .enum-told .given .1) (after-file-text .file-text .ensures .1))
-
-same-length-2 : tie.Need-same-length-2
-same-length-2 c = search needs
-
-returns-2 : tie.Need-returns-2
-returns-2 c =
-    let line = c .before .before in
-    let ending-told = line .before .before in
-    let start = ending-told .before .before .before .before in
-    let stands = line-stands (line .refusal-line .ensures) (search needs) in
-    (stands .0, too-long-text T.statement _ too-long-line (start .pre .0) (ending-told .enum-told2 .given .1) (stands .1))
-
-returns-3 : tie.Need-returns-3
-returns-3 c = (zero-le, failed-text T.statement _ (c .enum-told3 .given .1))
+    let text = c .before .before in
+    let start = text .before .before .before .before in
+    input-printed final _ (start .args .ending) (start .pre .0) (text .input-text .ensures)
 
 pub input-text-spec : {M : Type 1} → statement M
-input-text-spec =
-    tie.close
-    (tie.spec
-    enum-told
-    file-text-requires
-    enum-told-2
-    refusal-line-requires
-    enum-told-3
-    same-length
-    returns
-    same-length-2
-    returns-2
-    returns-3)
+input-text-spec = tie.close (tie.spec input-text-requires same-length returns)
