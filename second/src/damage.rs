@@ -900,10 +900,13 @@ pub const BYTES_FAULTS: &[(&str, BytesFault)] = &[
         },
     ),
     // Not refixed, and another fault. One of the file comes before 17, one found after it gives 17 in a final run.
-    ("not refixed, and a wrong count", |draft, _| {
+    ("not refixed, and a wrong count", |draft, random| {
         draft.refixed.clear();
-        draft.end_count = Some(0);
-        refused(draft.records(), Number::WrongCount, draft.at_end())
+        let records = draft.at_end();
+        // With the refixed hours, as if they were there, or another.
+        let with_refixed = records + draft.fixed.len();
+        draft.end_count = Some(*random.pick(&[with_refixed, records + 1, 0]) as u32);
+        refused(draft.records(), Number::WrongCount, records)
     }),
     ("not refixed, and bytes after the end", |draft, random| {
         draft.refixed.clear();
