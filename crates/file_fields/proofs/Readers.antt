@@ -18,6 +18,7 @@ use Rattle.file_fields.specs.Fields.{FixedAsked, RefixedAsked, PriceAske
 use Rattle.file_fields.proofs.OneRecord.{priceIn, shareIn, fixed-there, refixed-there, price-there, reading-there, share-there, gln-there}
 use Rattle.rules.specs.Month.{monthOf, flowsAt, partyAt, priceAt, readingAt, shareOf}
 use Rattle.rules.specs.MonthFile.{MonthFile, H, P, readMonth}
+use Rattle.rules.specs.Setting.{Setting, provisional}
 use Rattle.rules.specs.Record as R
 use Rattle.rules.specs.Refusals.{given}
 use Rattle.rules.specs.Setting.{Setting, provisional}

@@ -10,6 +10,7 @@ use Rattle.file_sections.specs.declared.Sections.{Sections}
 use Rattle.file_sections.specs.Walk.{Accepted}
 use Rattle.rules.specs.Month.{flowsAt, partyAt, priceAt, readingAt, shareOf}
 use Rattle.rules.specs.MonthFile.{MonthFile, readMonth}
+use Rattle.rules.specs.Setting.{Setting}
 use Rattle.rules.specs.Refusals.{given}
 use Rattle.rules.specs.Setting.{Setting}
 

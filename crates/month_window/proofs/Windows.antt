@@ -27,21 +27,21 @@ use Rattle.rules.specs.Month.{curve, monthOf, readingAt, weightOf, readingFigur
 use Rattle.rules.specs.MonthFile.{MonthFile, H, P, readMonth}
 use Rattle.rules.specs.Record.{Reading}
 use Rattle.rules.specs.Refusals.{given}
-use Rattle.rules.specs.Setting.{Setting, provisional}
+use Rattle.rules.specs.Setting.{provisional}
 use Rattle.rules.specs.Words.{sum, at, figures}
 use Rattle.rules.proofs.Loops.{figures-length, figures-at}
 use Rattle.rules.proofs.Sums.{sum-cong}
 use Rattle.rules.proofs.Whole.{Whole, ReadingRight, every-at, heading-facts, within-is, of-the-right-length}
 
 -- a file that is read is not too long, and each reading has ten bytes of it
-at-most-longest : (setting : Setting) (file : List ℕ) {m : MonthFile} → readMonth setting file ≡ given m → length file ≤ longestFile
-at-most-longest setting file e = within-is 1 longestFile (length file) (of-the-right-length setting file e .0) .1
+at-most-longest : (file : List ℕ) {m : MonthFile} → readMonth provisional file ≡ given m → length file ≤ longestFile
+at-most-longest file e = within-is 1 longestFile (length file) (of-the-right-length provisional file e .0) .1
 
 pub few-readings : (file : List ℕ) (s : Sections) → Accepted file s → s .readings ≤ longestFile
 few-readings file s ok =
     ⊎-elim (λ (z : s .readings ≡ 0). rw z zero-le)
     (λ (some : 0 < s .readings).
-    omega (arith, at-most-longest provisional file (read-as file s ok provisional), reading-stands file s ok (s .readings - 1) (omega arith) .fits))
+    omega (arith, at-most-longest file (read-as file s ok provisional), reading-stands file s ok (s .readings - 1) (omega arith) .fits))
     (eq-zero-or-pos (s .readings))
 
 -- the rules' figure of a reading for a party is the curve's
