@@ -21,7 +21,6 @@ use Rattle.rules.specs.MonthFile.{MonthFile, H, P, readMonth}
 use Rattle.rules.specs.Setting.{Setting, provisional}
 use Rattle.rules.specs.Record as R
 use Rattle.rules.specs.Refusals.{given}
-use Rattle.rules.specs.Setting.{Setting, provisional}
 use Rattle.rules.proofs.Places.{Standing, Placed, what-is-read-is-placed}
 use Rattle.rules.proofs.Whole as W
 

@@ -12,7 +12,6 @@ use Rattle.rules.specs.Month.{flowsAt, partyAt, priceAt, readingAt, shareOf}
 use Rattle.rules.specs.MonthFile.{MonthFile, readMonth}
 use Rattle.rules.specs.Setting.{Setting}
 use Rattle.rules.specs.Refusals.{given}
-use Rattle.rules.specs.Setting.{Setting}
 
 pub record FixedAsked (file : List ℕ) (s : Sections) (t : ℕ) : Type 0 where
   pub accepted : Accepted file s
