@@ -1,4 +1,4 @@
-//! The comparison of another program, of either report, with this one, byte for byte, over the files of a seed.
+//! The comparison of another program, of any report, with this one, byte for byte, over the files of a seed.
 //!
 //! A file reaches the program in one piece, being its standard input, or in several through a pipe, each given only once
 //! the one before has been read: then no read gets more than a piece.
@@ -82,7 +82,7 @@ impl Check<'_> {
             ends.map(|end| end.expect("a thread of the check panicked"))
                 .collect()
         });
-        let mut tally = Tally::default();
+        let mut tally = Tally::new(self.report.setting());
         let mut differences = Vec::new();
         for end in ends {
             match end {
@@ -105,7 +105,7 @@ impl Check<'_> {
         next: &AtomicU64,
         stopped: &AtomicBool,
     ) -> Result<Tally, Difference> {
-        let mut tally = Tally::default();
+        let mut tally = Tally::new(self.report.setting());
         while !stopped.load(Ordering::Relaxed) {
             let number = next.fetch_add(1, Ordering::Relaxed);
             if number >= self.count {
@@ -121,7 +121,7 @@ impl Check<'_> {
         let path = directory.join(format!("{:07}.month", made.number));
         let at_path = |error: io::Error| format!("{}: {error}", path.display());
         fs::write(&path, &made.bytes).map_err(at_path)?;
-        let judged = settle(&made.bytes);
+        let judged = settle(&made.bytes, self.report.setting());
         let expected = self.report.printed(&judged);
         for &feed in self.feeds {
             let told = |message: &str| {

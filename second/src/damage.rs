@@ -1,5 +1,6 @@
 //! The damages: months with a fault for each refusal 1 to 15, in each way that its row of the table names; two faults at
-//! once, so that their order shows; and random damage.
+//! once, so that their order shows; and random damage. A month that is not refixed is good, in a provisional run, and 17 in a
+//! final one where nothing comes before it: what is told here is the provisional run's.
 //!
 //! A fault of a draft changes fields and tells the refusal that it alone must give. A fault of the bytes works on the
 //! records of a good draft and tells its aim. Neither is asked what the reader says: the tests compare the two.
@@ -7,34 +8,49 @@
 use crate::draft::{measured_hour, Draft};
 use crate::gln::with_check_digit;
 use crate::limits::{FILE_BYTES_MAX, STATUS_MISSING};
-use crate::make::{add_readings, month, most_residual_wh, random_hour, Aim};
+use crate::make::{add_readings, is_refixed, month, most_residual_wh, random_hour, Aim, MadeFile};
 use crate::random::Random;
 use crate::record::{Heading, HourFlows, Party, Reading, Record, FIXED_HOUR, REFIXED_HOUR};
 use crate::refusal::{Number, Refusal};
 
 type DraftFault = fn(&mut Draft, &mut Random) -> Refusal;
-type BytesFault = fn(Draft, &mut Random) -> (Vec<u8>, Aim);
+type BytesFault = fn(&mut Draft, &mut Random) -> (Vec<u8>, Aim);
 
-/// The damaged file of this number: all damages in turn.
-pub fn damaged(number: usize, random: &mut Random) -> (&'static str, Vec<u8>, Aim) {
+/// The file of this number with the damage whose turn it is: all in turn.
+pub fn damaged(number: u64, turn: usize, random: &mut Random) -> MadeFile {
     let mut draft = good_month(random);
-    let number = number % (BYTES_FAULTS.len() + DRAFT_FAULTS.len() + RANDOM_DAMAGES.len());
-    if let Some((name, fault)) = BYTES_FAULTS.get(number) {
+    let (name, bytes, provisional_aim) = damage_of_turn(turn, &mut draft, random);
+    MadeFile {
+        number,
+        name,
+        bytes,
+        refixed: !draft.refixed.is_empty(),
+        provisional_aim,
+    }
+}
+
+fn damage_of_turn(
+    turn: usize,
+    draft: &mut Draft,
+    random: &mut Random,
+) -> (&'static str, Vec<u8>, Aim) {
+    let turn = turn % (BYTES_FAULTS.len() + DRAFT_FAULTS.len() + RANDOM_DAMAGES.len());
+    if let Some((name, fault)) = BYTES_FAULTS.get(turn) {
         let (bytes, aim) = fault(draft, random);
         return (name, bytes, aim);
     }
-    let number = number - BYTES_FAULTS.len();
-    if let Some((name, fault)) = DRAFT_FAULTS.get(number) {
-        let refusal = fault(&mut draft, random);
+    let turn = turn - BYTES_FAULTS.len();
+    if let Some((name, fault)) = DRAFT_FAULTS.get(turn) {
+        let refusal = fault(draft, random);
         return (name, draft.bytes(), Aim::Refused(refusal));
     }
-    let (name, damage) = RANDOM_DAMAGES[number - DRAFT_FAULTS.len()];
+    let (name, damage) = RANDOM_DAMAGES[turn - DRAFT_FAULTS.len()];
     (name, damage(draft, random), Aim::Anything)
 }
 
 /// A month to damage: mostly small, now and then of full size; at least two hours, parties and readings.
 fn good_month(random: &mut Random) -> Draft {
-    let refixed = random.once_in(2);
+    let refixed = is_refixed(random);
     if random.once_in(16) {
         let readings = 20 + random.below(300);
         return month(random, 745, 64, refixed, readings);
@@ -540,10 +556,10 @@ pub const BYTES_FAULTS: &[(&str, BytesFault)] = &[
         bytes.resize(FILE_BYTES_MAX + 1, random.bits() as u8);
         refused(vec![bytes], Number::BrokenFile, 0)
     }),
-    ("a good month, but too long", |mut draft, random| {
+    ("a good month, but too long", |draft, random| {
         while draft.bytes().len() <= FILE_BYTES_MAX {
             let readings = (FILE_BYTES_MAX - draft.bytes().len()) / 10 + 1;
-            let nothing = reading_of(&draft, random, 0, 1, 0);
+            let nothing = reading_of(draft, random, 0, 1, 0);
             draft.readings.extend(vec![nothing; readings]);
         }
         refused(draft.records(), Number::BrokenFile, 0)
@@ -633,63 +649,63 @@ pub const BYTES_FAULTS: &[(&str, BytesFault)] = &[
         records.insert(place, records[0].clone());
         refused(records, Number::OutOfOrder, place)
     }),
-    ("a party too few", |mut draft, random| {
+    ("a party too few", |draft, random| {
         let party = random.below(draft.parties.len());
         draft.parties.remove(party);
         refused(draft.records(), Number::OutOfOrder, draft.at_fixed(0))
     }),
-    ("a party too many", |mut draft, _| {
+    ("a party too many", |draft, _| {
         let place = draft.at_fixed(0);
         let mut another = draft.parties[0];
         another.gln = with_check_digit(999_999_999_999);
         draft.parties.push(another);
         refused(draft.records(), Number::OutOfOrder, place)
     }),
-    ("a fixed hour too few", |mut draft, random| {
+    ("a fixed hour too few", |draft, random| {
         let hour = random.below(draft.fixed.len());
         draft.fixed.remove(hour);
         refused(draft.records(), Number::OutOfOrder, draft.at_fixed(hour))
     }),
-    ("a fixed hour too many", |mut draft, random| {
+    ("a fixed hour too many", |draft, random| {
         let hour = draft.fixed.len();
         draft.fixed.push(random_hour(random, hour, 0));
         refused(draft.records(), Number::OutOfOrder, draft.at_fixed(hour))
     }),
-    ("a refixed hour too few", |mut draft, random| {
-        have_refixed(&mut draft);
+    ("a refixed hour too few", |draft, random| {
+        have_refixed(draft);
         let hour = random.below(draft.refixed.len());
         draft.refixed.remove(hour);
         refused(draft.records(), Number::OutOfOrder, draft.at_refixed(hour))
     }),
-    ("a refixed hour too many", |mut draft, random| {
-        have_refixed(&mut draft);
+    ("a refixed hour too many", |draft, random| {
+        have_refixed(draft);
         let hour = draft.refixed.len();
         draft.refixed.push(random_hour(random, hour, 0));
         refused(draft.records(), Number::OutOfOrder, draft.at_refixed(hour))
     }),
-    ("half a refixed series", |mut draft, random| {
-        have_refixed(&mut draft);
+    ("half a refixed series", |draft, random| {
+        have_refixed(draft);
         let hour = 1 + random.below(draft.refixed.len() - 1);
         draft.refixed.truncate(hour);
         refused(draft.records(), Number::OutOfOrder, draft.at_refixed(hour))
     }),
-    ("a price too few", |mut draft, random| {
+    ("a price too few", |draft, random| {
         let hour = random.below(draft.prices.len());
         draft.prices.remove(hour);
         refused(draft.records(), Number::OutOfOrder, draft.at_price(hour))
     }),
-    ("a price too many", |mut draft, _| {
+    ("a price too many", |draft, _| {
         let hour = draft.prices.len();
         let mut another = draft.prices[0];
         another.hour = hour as u16;
         draft.prices.push(another);
         refused(draft.records(), Number::OutOfOrder, draft.at_price(hour))
     }),
-    ("no prices", |mut draft, _| {
+    ("no prices", |draft, _| {
         draft.prices.clear();
         refused(draft.records(), Number::OutOfOrder, draft.at_price(0))
     }),
-    ("refixed hours after the prices", |mut draft, _| {
+    ("refixed hours after the prices", |draft, _| {
         draft.refixed.clear();
         let mut records = draft.records();
         let place = draft.at_reading(0);
@@ -703,8 +719,8 @@ pub const BYTES_FAULTS: &[(&str, BytesFault)] = &[
         records[place][0] = REFIXED_HOUR;
         refused(records, Number::OutOfOrder, place)
     }),
-    ("a refixed hour marked as fixed", |mut draft, random| {
-        have_refixed(&mut draft);
+    ("a refixed hour marked as fixed", |draft, random| {
+        have_refixed(draft);
         let mut records = draft.records();
         let place = draft.at_refixed(random.below(draft.refixed.len()));
         records[place][0] = FIXED_HOUR;
@@ -749,13 +765,13 @@ pub const BYTES_FAULTS: &[(&str, BytesFault)] = &[
         records.insert(place, Record::Heading(heading).encode());
         refused(records, Number::OutOfOrder, place)
     }),
-    ("hour field and status", |mut draft, random| {
+    ("hour field and status", |draft, random| {
         let hour = random.below(draft.fixed.len());
         draft.fixed[hour].hour = other_hour(random, hour);
         draft.fixed[hour].status = 3;
         refused(draft.records(), Number::OutOfOrder, draft.at_fixed(hour))
     }),
-    ("hour field and price", |mut draft, random| {
+    ("hour field and price", |draft, random| {
         let hour = random.below(draft.prices.len());
         draft.prices[hour].hour = other_hour(random, hour);
         draft.prices[hour].price_ore = i32::MAX;
@@ -773,13 +789,13 @@ pub const BYTES_FAULTS: &[(&str, BytesFault)] = &[
             refused(records, Number::OutOfOrder, draft.at_fixed(0))
         },
     ),
-    ("load share and GLN", |mut draft, random| {
+    ("load share and GLN", |draft, random| {
         let party = random.below(draft.parties.len());
         draft.parties[party].load_share_kwh = 4_000_000_001;
         draft.parties[party].gln[random.below(13)] = b'x';
         refused(draft.records(), Number::OutsideRange, draft.at_party(party))
     }),
-    ("party, span and E", |mut draft, random| {
+    ("party, span and E", |draft, random| {
         let reading = random.below(draft.readings.len());
         let party = draft.parties.len() as u8;
         draft.readings[reading] = Reading {
@@ -794,13 +810,13 @@ pub const BYTES_FAULTS: &[(&str, BytesFault)] = &[
             draft.at_reading(reading),
         )
     }),
-    ("span and E", |mut draft, random| {
+    ("span and E", |draft, random| {
         let reading = random.below(draft.readings.len());
         let hours = draft.fixed.len();
-        draft.readings[reading] = reading_of(&draft, random, 0, hours + 1, u32::MAX);
+        draft.readings[reading] = reading_of(draft, random, 0, hours + 1, u32::MAX);
         refused(draft.records(), Number::BadSpan, draft.at_reading(reading))
     }),
-    ("wrong count and bytes after", |mut draft, random| {
+    ("wrong count and bytes after", |draft, random| {
         let place = draft.at_end();
         draft.end_count = Some(place as u32 + 1);
         let mut records = draft.records();
@@ -816,74 +832,127 @@ pub const BYTES_FAULTS: &[(&str, BytesFault)] = &[
         refused(records, Number::OutOfOrder, place)
     }),
     // A fault of the file and one found after it, or two found after it.
-    ("W 0 and bytes after the end", |mut draft, random| {
-        set_shares(&mut draft, 0, 0);
+    ("W 0 and bytes after the end", |draft, random| {
+        set_shares(draft, 0, 0);
         let mut records = draft.records();
         records.push(vec![random.bits() as u8]);
         refused(records, Number::BrokenFile, draft.at_end() + 1)
     }),
-    ("W too large and wrong count", |mut draft, _| {
-        set_shares(&mut draft, 4_000_000_000, 1);
+    ("W too large and wrong count", |draft, _| {
+        set_shares(draft, 4_000_000_000, 1);
         draft.end_count = Some(0);
         refused(draft.records(), Number::WrongCount, draft.at_end())
     }),
-    ("W 0 and a figure with status 0", |mut draft, random| {
-        set_shares(&mut draft, 0, 0);
-        let refusal = missing_with(&mut draft, random, |flows, f| flows.net_supply_wh = f);
+    ("W 0 and a figure with status 0", |draft, random| {
+        set_shares(draft, 0, 0);
+        let refusal = missing_with(draft, random, |flows, f| flows.net_supply_wh = f);
         refused(draft.records(), refusal.number, refusal.place)
     }),
-    ("W 0 and a missing hour", |mut draft, random| {
-        set_shares(&mut draft, 0, 0);
+    ("W 0 and a missing hour", |draft, random| {
+        set_shares(draft, 0, 0);
         let hour = random.below(draft.fixed.len());
         draft.fixed[hour] = missing_hour(hour);
         refused(draft.records(), Number::BadShareSum, 0)
     }),
     (
         "fixed too large late, refixed missing early",
-        |mut draft, random| {
-            have_refixed(&mut draft);
+        |draft, random| {
+            have_refixed(draft);
             let last = draft.fixed.len() - 1;
             draft.refixed[0] = missing_hour(0);
             draft.fixed[last] = too_large_hour(random, last);
             refused(draft.records(), Number::ResidualTooLarge, last)
         },
     ),
-    ("negative early, missing late", |mut draft, random| {
+    ("negative early, missing late", |draft, random| {
         let last = draft.fixed.len() - 1;
         draft.fixed[last] = missing_hour(last);
         draft.fixed[last - 1] = negative_hour(random, last - 1);
         refused(draft.records(), Number::NegativeResidual, last - 1)
     }),
-    (
-        "curve number and a later refixed hour",
-        |mut draft, random| {
-            have_refixed(&mut draft);
-            let last = draft.fixed.len() - 1;
-            steep_curve(&mut draft, random, 0);
-            draft.refixed[last] = negative_hour(random, last);
-            refused(draft.records(), Number::NegativeResidual, last)
-        },
-    ),
+    ("curve number and a later refixed hour", |draft, random| {
+        have_refixed(draft);
+        let last = draft.fixed.len() - 1;
+        steep_curve(draft, random, 0);
+        draft.refixed[last] = negative_hour(random, last);
+        refused(draft.records(), Number::NegativeResidual, last)
+    }),
     (
         "curve number and a reading without weight",
-        |mut draft, random| {
+        |draft, random| {
             let last = draft.fixed.len() - 1;
             draft.readings.clear();
-            steep_curve(&mut draft, random, last);
+            steep_curve(draft, random, last);
             draft.fixed[0] = random_hour(random, 0, 0);
-            draft.readings = vec![reading_of(&draft, random, 0, 1, 5)];
+            draft.readings = vec![reading_of(draft, random, 0, 1, 5)];
             refused(draft.records(), Number::CurveNumberTooLarge, last)
         },
     ),
     (
         "too much periodised and a reading without weight",
-        |mut draft, random| {
+        |draft, random| {
             let last = draft.fixed.len() - 1;
-            crowded_hour(&mut draft, random, 0);
+            crowded_hour(draft, random, 0);
             draft.fixed[last] = random_hour(random, last, 0);
-            let reading = reading_of(&draft, random, last, last + 1, 1);
+            let reading = reading_of(draft, random, last, last + 1, 1);
             draft.readings.push(reading);
             refused(draft.records(), Number::NoWeight, 3)
+        },
+    ),
+    // Not refixed, and another fault. One of the file comes before 17, one found after it gives 17 in a final run.
+    ("not refixed, and a wrong count", |draft, random| {
+        draft.refixed.clear();
+        let records = draft.at_end();
+        // With the refixed hours, as if they were there, or another.
+        let with_refixed = records + draft.fixed.len();
+        draft.end_count = Some(*random.pick(&[with_refixed, records + 1, 0]) as u32);
+        refused(draft.records(), Number::WrongCount, records)
+    }),
+    ("not refixed, and bytes after the end", |draft, random| {
+        draft.refixed.clear();
+        let mut records = draft.records();
+        records.push(vec![random.bits() as u8; 1 + random.below(40)]);
+        refused(records, Number::BrokenFile, draft.at_end() + 1)
+    }),
+    ("not refixed, and the last E too large", |draft, _| {
+        draft.refixed.clear();
+        let last = draft.readings.len() - 1;
+        draft.readings[last].e_wh = 1_000_000_001;
+        refused(
+            draft.records(),
+            Number::ReadingTooLarge,
+            draft.at_reading(last),
+        )
+    }),
+    ("not refixed, and the last byte missing", |draft, _| {
+        draft.refixed.clear();
+        let mut bytes = draft.bytes();
+        bytes.pop();
+        refused(vec![bytes], Number::BrokenFile, draft.at_end())
+    }),
+    ("not refixed, and W 0", |draft, _| {
+        draft.refixed.clear();
+        set_shares(draft, 0, 0);
+        refused(draft.records(), Number::BadShareSum, 0)
+    }),
+    ("not refixed, and W too large", |draft, _| {
+        draft.refixed.clear();
+        set_shares(draft, 4_000_000_000, 1);
+        refused(draft.records(), Number::BadShareSum, 0)
+    }),
+    ("not refixed, and a missing hour", |draft, random| {
+        draft.refixed.clear();
+        let hour = random.below(draft.fixed.len());
+        draft.fixed[hour] = missing_hour(hour);
+        refused(draft.records(), Number::MissingHour, hour)
+    }),
+    (
+        "not refixed, and too much periodised in an hour",
+        |draft, random| {
+            draft.refixed.clear();
+            let hour = random.below(draft.fixed.len());
+            crowded_hour(draft, random, hour);
+            refused(draft.records(), Number::TooMuchPeriodised, hour)
         },
     ),
 ];
@@ -894,7 +963,7 @@ fn unknown_kind(random: &mut Random) -> u8 {
 
 // Random damage, and two or three faults at random.
 
-type RandomDamage = fn(Draft, &mut Random) -> Vec<u8>;
+type RandomDamage = fn(&mut Draft, &mut Random) -> Vec<u8>;
 
 /// Damages whose answer only the reader knows. The common ones stand here several times.
 pub const RANDOM_DAMAGES: &[(&str, RandomDamage)] = &[
@@ -969,48 +1038,48 @@ pub const RANDOM_DAMAGES: &[(&str, RandomDamage)] = &[
         bytes.extend((0..random.below(200)).map(|_| random.below(8) as u8));
         bytes
     }),
-    ("readings at random", |mut draft, random| {
+    ("readings at random", |draft, random| {
         // Large readings over short spans: some months take them, some give 13 or 14.
         for _ in 0..6 {
             let a = random.below(draft.fixed.len());
             let e_wh = random.any_size(1_000_000_000) as u32;
-            let reading = reading_of(&draft, random, a, a + 1, e_wh);
+            let reading = reading_of(draft, random, a, a + 1, e_wh);
             draft.readings.push(reading);
         }
         draft.bytes()
     }),
-    ("readings added, the count left", |mut draft, random| {
+    ("readings added, the count left", |draft, random| {
         draft.end_count = Some(draft.at_end() as u32);
         let readings = random.below(2);
-        add_readings(random, &mut draft, readings);
+        add_readings(random, draft, readings);
         draft.bytes()
     }),
 ];
 
 /// Two faults of the fields, in one record or in two, of one stage or of two.
-fn two_faults(mut draft: Draft, random: &mut Random) -> Vec<u8> {
+fn two_faults(draft: &mut Draft, random: &mut Random) -> Vec<u8> {
     for _ in 0..2 {
         let (_, fault) = random.pick(DRAFT_FAULTS);
-        fault(&mut draft, random);
+        fault(draft, random);
     }
     draft.bytes()
 }
 
-fn fields_and_bytes(mut draft: Draft, random: &mut Random) -> Vec<u8> {
+fn fields_and_bytes(draft: &mut Draft, random: &mut Random) -> Vec<u8> {
     let (_, fault) = random.pick(DRAFT_FAULTS);
-    fault(&mut draft, random);
+    fault(draft, random);
     let (_, fault) = random.pick(BYTES_FAULTS);
     fault(draft, random).0
 }
 
-fn swapped_records(draft: Draft, random: &mut Random) -> Vec<u8> {
+fn swapped_records(draft: &mut Draft, random: &mut Random) -> Vec<u8> {
     let mut records = draft.records();
     let (one, other) = (random.below(records.len()), random.below(records.len()));
     records.swap(one, other);
     records.concat()
 }
 
-fn swapped_neighbours(draft: Draft, random: &mut Random) -> Vec<u8> {
+fn swapped_neighbours(draft: &mut Draft, random: &mut Random) -> Vec<u8> {
     let mut records = draft.records();
     let place = random.below(records.len() - 1);
     records.swap(place, place + 1);
@@ -1018,7 +1087,7 @@ fn swapped_neighbours(draft: Draft, random: &mut Random) -> Vec<u8> {
 }
 
 /// One to three bits changed, anywhere.
-fn flipped_bytes(draft: Draft, random: &mut Random) -> Vec<u8> {
+fn flipped_bytes(draft: &mut Draft, random: &mut Random) -> Vec<u8> {
     let mut bytes = draft.bytes();
     for _ in 0..1 + random.below(3) {
         let place = random.below(bytes.len());

@@ -1,5 +1,5 @@
-//! The stored examples: S1 of 01, a full month with realistic figures, a month with a silent hour, and the case D3 of 01 as
-//! a month that can be worked out by hand.
+//! The stored examples: S1 of 01, a full month with realistic figures, a month with a silent hour, the case D3 of 01 as a
+//! month that can be worked out by hand, and another such month before and after its refixation.
 
 use crate::draft::{measured_hour, prices_of, Draft, DraftParty};
 use crate::gln::with_check_digit;
@@ -8,7 +8,7 @@ use crate::random::Random;
 use crate::record::{Heading, HourFlows, Reading};
 
 /// The names of the examples.
-pub const NAMES: [&str; 4] = ["s1", "full", "silent", "d3"];
+pub const NAMES: [&str; 6] = ["s1", "full", "silent", "d3", "before", "after"];
 
 /// The month file of an example; None for an unknown name.
 pub fn example(name: &str) -> Option<Vec<u8>> {
@@ -17,6 +17,8 @@ pub fn example(name: &str) -> Option<Vec<u8>> {
         "full" => Some(full().bytes()),
         "silent" => Some(silent().bytes()),
         "d3" => Some(d3().bytes()),
+        "before" => Some(before().bytes()),
+        "after" => Some(after().bytes()),
         _ => None,
     }
 }
@@ -56,14 +58,35 @@ pub fn s1() -> Draft {
     }
 }
 
-/// "D3 P: shares 6, 6, 2, residuals 10, 1", with flows, prices and readings of a few Wh. Hour 1 is estimated, the fixed
-/// series is the applied one, and more is read in hour 1 than was supplied.
+/// "D3 P: shares 6, 6, 2, residuals 10, 1", with flows, prices and readings of a few Wh. Hour 1 is estimated, refixation
+/// changed nothing, and more is read in hour 1 than was supplied.
 pub fn d3() -> Draft {
+    let mut draft = fixed_d3(3, 6);
+    draft.refixed = draft.fixed.clone();
+    draft
+}
+
+/// The figures of D3 in another area and month, before refixation.
+pub fn before() -> Draft {
+    fixed_d3(4, 7)
+}
+
+/// The same month refixed: hour 1, which had been estimated, was measured, and had one Wh more.
+pub fn after() -> Draft {
+    let mut draft = before();
+    draft.refixed = draft.fixed.clone();
+    draft.refixed[1].status = STATUS_MEASURED;
+    draft.refixed[1].net_supply_wh += 1;
+    draft
+}
+
+/// The figures of D3 in this area and month of 2016, with the fixed series alone.
+fn fixed_d3(area: u16, month: u8) -> Draft {
     Draft {
         heading: Heading {
-            area: 3,
+            area,
             year: 2016,
-            month: 6,
+            month,
             hours: 2,
             parties: 3,
             carrier: 1,

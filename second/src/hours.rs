@@ -10,18 +10,18 @@
 //! Sums and distances are taken of the figures themselves, and not of the rule that gave them: wrong figures would show.
 
 use crate::limits::{STATUS_ESTIMATED, STATUS_MEASURED};
-use crate::month::{settle, Month};
+use crate::month::Month;
 use crate::report::Report;
 use crate::statement::{heading, line};
 
 /// What the hours program prints for a month file.
 pub fn hours(file: &[u8]) -> String {
-    Report::Hours.printed(&settle(file))
+    Report::Hours.of(file)
 }
 
 /// The hours of a settled month: heading, one line per hour, one line per party in order.
 pub fn text(month: &Month) -> String {
-    let mut lines = heading(month);
+    let mut lines = heading(month) + "\n";
     lines.extend((0..month.hours.len()).map(|hour| hour_line(month, hour)));
     lines.extend((0..month.file.parties.len()).map(|party| party_line(month, party)));
     lines

@@ -1,9 +1,10 @@
 //! The independent second program.
 //!
-//! It is written from document 01 ("Exact scope and rules") and Regulation H2, version 5.11, and from nothing else,
-//! with 128-bit arithmetic straight from the definitions. It judges whatever the main program answers.
+//! It is written from documents 01 ("Exact scope and rules") and 02 (the requests after it) and Regulation H2, version
+//! 5.11, and from nothing else, with 128-bit arithmetic straight from the definitions. It judges whatever the main program
+//! answers.
 //!
-//! | module | renders of 01 |
+//! | module | renders of 01, or of the request of 02 that it names |
 //! |---|---|
 //! | `limits` | "Numbers that bound it" |
 //! | `refusal` | "Refusal numbers" |
@@ -14,10 +15,12 @@
 //! | `distribution` | "Distributed consumption" |
 //! | `periodisation` | "Periodised consumption" |
 //! | `reconciliation` | "Reconciliation", one hour; the invoice figure |
+//! | `setting` | W1: final or provisional |
 //! | `month` | a whole month: the order of refusals, the hours' figures, the month sums |
 //! | `statement` | "The statement program" |
 //! | `hours` | what the reviewer of 00 asks about a month; its layout stands at its head |
-//! | `report` | either program's output: its text, or the refusal line |
+//! | `preview` | W1: the statement of a month that may be provisional |
+//! | `report` | a program's output: its text, or the refusal line |
 //!
 //! The rest makes files to judge by: `random` (seeded numbers), `draft` (a month that can be edited), `make` and
 //! `damage` (months of every shape and with every fault), `examples` (the stored ones), `check` (comparing another
@@ -42,10 +45,12 @@ pub mod make;
 pub mod month;
 pub mod month_file;
 pub mod periodisation;
+pub mod preview;
 pub mod random;
 pub mod reconciliation;
 pub mod record;
 pub mod refusal;
 pub mod report;
 pub mod residual;
+pub mod setting;
 pub mod statement;

@@ -2,11 +2,12 @@
 //!
 //! - `second statement < FILE` prints what the statement program prints.
 //! - `second hours < FILE` prints what the hours program prints.
-//! - `second make --seed S --count N --out DIR` writes month files and their expected output.
+//! - `second preview < FILE` prints what the preview program prints.
+//! - `second make --seed S --count N --out DIR` writes month files and what each program must print for them.
 //! - `second check --program PATH --seed S --count N` compares another statement program with this one, or with `--report
-//!   hours` another hours program; a long campaign is run with `--threads T`, and with `--feed whole` (or `pieces`) instead
-//!   of both.
-//! - `second example NAME` writes the month file of an example (s1, full, silent, d3).
+//!   hours` or `--report preview` another of those; a long campaign is run with `--threads T`, and with `--feed whole` (or
+//!   `pieces`) instead of both.
+//! - `second example NAME` writes the month file of an example (s1, full, silent, d3, before, after).
 //! - `second bench-file ..` writes a month file of a chosen size (bench/README.md).
 
 use std::io::{self, Read, Write};
@@ -17,14 +18,15 @@ use std::time::Instant;
 use second::bench::{bench_file, Fault, Readings, Size};
 use second::check::{Check, Feed};
 use second::limits::{FILE_BYTES_MAX, HOURS, PARTIES};
-use second::month::settle;
+use second::make::Tally;
 use second::report::Report;
 use second::{examples, make};
 
-const USAGE: &str = "usage: second statement|hours < FILE
+const USAGE: &str = "usage: second statement|hours|preview < FILE
        second make --seed S --count N --out DIR
-       second check --program PATH --seed S --count N [--report statement|hours] [--feed whole|pieces|both] [--threads T]
-       second example s1|full|silent|d3
+       second check --program PATH --seed S --count N [--report statement|hours|preview]
+           [--feed whole|pieces|both] [--threads T]
+       second example s1|full|silent|d3|before|after
        second bench-file --hours H --parties P --series fixed|refixed --readings N|most --span HOURS [--fault byte|count]";
 
 fn main() -> ExitCode {
@@ -33,6 +35,7 @@ fn main() -> ExitCode {
     let done = match words[..] {
         ["statement"] => print_report(Report::Statement),
         ["hours"] => print_report(Report::Hours),
+        ["preview"] => print_report(Report::Preview),
         ["make", ref options @ ..] => make_files(options),
         ["check", ref options @ ..] => check_program(options),
         ["example", name] => print_example(name),
@@ -56,7 +59,7 @@ fn print_report(report: Report) -> Result<(), String> {
         .take(FILE_BYTES_MAX as u64 + 1)
         .read_to_end(&mut file)
         .map_err(|error| format!("standard input cannot be read: {error}"))?;
-    print_bytes(report.printed(&settle(&file)).as_bytes())
+    print_bytes(report.of(&file).as_bytes())
 }
 
 fn print_example(name: &str) -> Result<(), String> {
@@ -75,10 +78,12 @@ fn make_files(options: &[&str]) -> Result<(), String> {
     let seed = number(options, "--seed")?;
     let count = number(options, "--count")?;
     let directory = option(options, "--out")?;
-    let tally = make::write_files(seed, count, Path::new(directory))
+    let tallies = make::write_files(seed, count, Path::new(directory))
         .map_err(|error| format!("{directory}: {error}"))?;
-    print_bytes(tally.to_string().as_bytes())?;
-    tally.complete()
+    for tally in &tallies {
+        print_bytes(tally.to_string().as_bytes())?;
+    }
+    tallies.iter().try_for_each(Tally::complete)
 }
 
 fn check_program(options: &[&str]) -> Result<(), String> {

@@ -1,7 +1,8 @@
-//! The maker of month files: valid ones of every shape, here, and damaged ones (`damage`), each with its expected output.
+//! The maker of month files: valid ones of every shape, here, and damaged ones (`damage`), each with its expected outputs.
 //!
 //! Seed and file number alone decide a file. Every third file is valid; the shapes and the damages are gone through in
-//! turn, their details are random.
+//! turn, their details are random. Most months are refixed, so that a final run gets past its 17 and to what comes after;
+//! about a fifth are not. "Valid" is said of a provisional run: a final one refuses a valid month that is not refixed.
 
 use std::collections::BTreeSet;
 use std::fmt;
@@ -21,12 +22,13 @@ use crate::month::{settle, Month};
 use crate::periodisation::periodised_wh;
 use crate::random::Random;
 use crate::record::{Heading, HourFlows, Reading};
-use crate::refusal::Refusal;
+use crate::refusal::{Number, Refusal};
 use crate::report::Report;
 use crate::residual::{curve_number, residual_wh};
+use crate::setting::Setting;
 
-/// What the maker of a file meant it to give. The expected output comes from the file itself; the tests hold the two
-/// against each other.
+/// What the maker of a file meant it to give in a run. The expected output comes from the file itself; the tests hold the
+/// two against each other.
 #[derive(Clone, Copy, Debug, PartialEq, Eq)]
 pub enum Aim {
     Accepted,
@@ -41,24 +43,58 @@ pub struct MadeFile {
     /// The shape or the damage.
     pub name: &'static str,
     pub bytes: Vec<u8>,
-    pub aim: Aim,
+    /// Whether the month was made with a refixed series.
+    pub refixed: bool,
+    /// What a provisional run is to give.
+    pub provisional_aim: Aim,
+}
+
+impl MadeFile {
+    /// What a run of this setting is to give. Where there are no 06 records a final run has 17 in place of acceptance and of
+    /// every refusal that comes after the file is read.
+    pub fn aim(&self, setting: Setting) -> Aim {
+        let is_read = match self.provisional_aim {
+            Aim::Accepted => true,
+            Aim::Refused(refusal) => is_after_the_reading(refusal.number),
+            Aim::Anything => false,
+        };
+        if setting == Setting::Final && !self.refixed && is_read {
+            Aim::Refused(Number::NoRefixedSeries.at(0))
+        } else {
+            self.provisional_aim
+        }
+    }
+}
+
+/// "Then 6; then the fixed hours in order, each 7, 8, 9; .. 10 by hour; 13 by reading; 14 by hour"
+fn is_after_the_reading(number: Number) -> bool {
+    matches!(
+        number,
+        Number::BadShareSum
+            | Number::MissingHour
+            | Number::NegativeResidual
+            | Number::ResidualTooLarge
+            | Number::CurveNumberTooLarge
+            | Number::NoWeight
+            | Number::TooMuchPeriodised
+    )
 }
 
 /// The file of this number of a seed.
 pub fn file(seed: u64, number: u64) -> MadeFile {
     let random = &mut Random::of_file(seed, number);
     let valid_before = number.div_ceil(3);
-    let (name, bytes, aim) = if number.is_multiple_of(3) {
-        let (name, shape) = SHAPES[(number / 3) as usize % SHAPES.len()];
-        (name, shape(random).bytes(), Aim::Accepted)
-    } else {
-        damage::damaged((number - valid_before) as usize, random)
-    };
+    if !number.is_multiple_of(3) {
+        return damage::damaged(number, (number - valid_before) as usize, random);
+    }
+    let (name, shape) = SHAPES[(number / 3) as usize % SHAPES.len()];
+    let draft = shape(random);
     MadeFile {
         number,
         name,
-        bytes,
-        aim,
+        bytes: draft.bytes(),
+        refixed: !draft.refixed.is_empty(),
+        provisional_aim: Aim::Accepted,
     }
 }
 
@@ -67,32 +103,56 @@ pub fn files(seed: u64, count: u64) -> impl Iterator<Item = MadeFile> {
     (0..count).map(move |number| file(seed, number))
 }
 
-/// Writes the files of a seed as NNNNNNN.month and their statements, or refusal lines, as NNNNNNN.expected.
-pub fn write_files(seed: u64, count: u64, directory: &Path) -> io::Result<Tally> {
+/// Writes the files of a seed as NNNNNNN.month and what each program must print as NNNNNNN.statement, .hours and .preview.
+/// Tells the tally of each setting.
+pub fn write_files(seed: u64, count: u64, directory: &Path) -> io::Result<[Tally; 2]> {
     fs::create_dir_all(directory)?;
-    let mut tally = Tally::default();
+    let mut tallies = Setting::ALL.map(Tally::new);
     for made in files(seed, count) {
         let path = directory.join(format!("{:07}.month", made.number));
         fs::write(&path, &made.bytes)?;
-        let judged = settle(&made.bytes);
-        let expected = Report::Statement.printed(&judged);
-        fs::write(path.with_extension("expected"), expected)?;
-        tally.count(&judged);
+        for report in Report::ALL {
+            fs::write(path.with_extension(report.word()), report.of(&made.bytes))?;
+        }
+        for tally in &mut tallies {
+            tally.count(&settle(&made.bytes, tally.setting));
+        }
     }
-    Ok(tally)
+    Ok(tallies)
 }
 
-/// How often files were accepted, and how often refused with each number.
-#[derive(Default)]
+/// How often files were accepted in runs of a setting, and how often refused with each number.
 pub struct Tally {
+    pub setting: Setting,
     pub accepted: u64,
     /// Of the accepted ones, those of `HOURS` and `PARTIES` at their most.
     pub of_full_size: u64,
-    /// By refusal number; a file gives 1 to 15.
-    pub refused: [u64; 16],
+    /// Of the accepted ones, those that are not refixed.
+    pub not_refixed: u64,
+    /// By refusal number.
+    pub refused: [u64; 18],
 }
 
 impl Tally {
+    pub fn new(setting: Setting) -> Self {
+        Tally {
+            setting,
+            accepted: 0,
+            of_full_size: 0,
+            not_refixed: 0,
+            refused: [0; 18],
+        }
+    }
+
+    /// The refusals that a file can get in this setting: 1 to 15, and a final run's 17.
+    fn numbers(&self) -> impl Iterator<Item = usize> {
+        let of_setting = match self.setting {
+            Setting::Final => Some(17),
+            Setting::Provisional => None,
+        };
+        (1..=15).chain(of_setting)
+    }
+
     pub fn count(&mut self, judged: &Result<Month, Refusal>) {
         match judged {
             Ok(month) => {
@@ -102,6 +162,7 @@ impl Tally {
                     i128::from(heading.hours) == *HOURS.end()
                         && i128::from(heading.parties) == *PARTIES.end(),
                 );
+                self.not_refixed += u64::from(month.refixed_wh.is_empty());
             }
             Err(refusal) => self.refused[refusal.number as usize] += 1,
         }
@@ -111,16 +172,17 @@ impl Tally {
     pub fn add(&mut self, other: &Tally) {
         self.accepted += other.accepted;
         self.of_full_size += other.of_full_size;
+        self.not_refixed += other.not_refixed;
         for (count, more) in self.refused.iter_mut().zip(other.refused) {
             *count += more;
         }
     }
 
-    /// Fails, naming them, if some of the refusals 1 to 15 did not occur, or no accepted month of full size or none of
-    /// less.
+    /// Fails, naming them, if some of the refusals of the setting did not occur, or no accepted month of full size or none
+    /// of less, or in provisional runs no accepted month that is refixed or none that is not.
     pub fn complete(&self) -> Result<(), String> {
-        let numbers = 1..self.refused.len();
-        let mut missing: Vec<String> = numbers
+        let mut missing: Vec<String> = self
+            .numbers()
             .filter(|&number| self.refused[number] == 0)
             .map(|number| format!("refused {number}"))
             .collect();
@@ -129,6 +191,12 @@ impl Tally {
         }
         if self.of_full_size == 0 {
             missing.push("accepted, of full size".to_string());
+        }
+        if self.accepted == self.not_refixed {
+            missing.push("accepted, refixed".to_string());
+        }
+        if self.setting == Setting::Provisional && self.not_refixed == 0 {
+            missing.push("accepted, not refixed".to_string());
         }
         if missing.is_empty() {
             Ok(())
@@ -140,13 +208,14 @@ impl Tally {
 
 impl fmt::Display for Tally {
     fn fmt(&self, out: &mut fmt::Formatter) -> fmt::Result {
-        for (number, count) in self.refused.iter().enumerate().skip(1) {
-            writeln!(out, "refused {number}: {count}")?;
+        writeln!(out, "{} runs", self.setting.word())?;
+        for number in self.numbers() {
+            writeln!(out, "refused {number}: {}", self.refused[number])?;
         }
         writeln!(
             out,
-            "accepted: {}, of which of full size: {}",
-            self.accepted, self.of_full_size
+            "accepted: {}, of which of full size: {}, not refixed: {}",
+            self.accepted, self.of_full_size, self.not_refixed
         )
     }
 }
@@ -155,23 +224,23 @@ type Shape = fn(&mut Random) -> Draft;
 
 /// The valid shapes, in the order in which they are made.
 pub const SHAPES: &[(&str, Shape)] = &[
-    ("small", |random| small_month(random, false)),
-    ("small, refixed", |random| small_month(random, true)),
+    ("small", |random| small_month(random, true)),
+    ("small, not refixed", |random| small_month(random, false)),
     ("one hour, one party", |random| {
-        let refixed = random.once_in(2);
+        let refixed = is_refixed(random);
         month(random, 1, 1, refixed, 2)
     }),
     ("745 hours, 64 parties", |random| {
-        let readings = random.below(400);
-        month(random, 745, 64, false, readings)
-    }),
-    ("745 hours, 64 parties, refixed", |random| {
         let readings = random.below(500);
         month(random, 745, 64, true, readings)
     }),
+    ("745 hours, 64 parties, not refixed", |random| {
+        let readings = random.below(400);
+        month(random, 745, 64, false, readings)
+    }),
     ("a month of 28 to 31 days", |random| {
         let hours = *random.pick(&[671, 672, 696, 719, 720, 721, 743, 744, 745]);
-        let (parties, refixed) = (10 + random.below(30), random.once_in(2));
+        let (parties, refixed) = (10 + random.below(30), is_refixed(random));
         month(random, hours, parties, refixed, 100)
     }),
     ("spans of real zeros", real_zeros),
@@ -205,14 +274,16 @@ pub const SHAPES: &[(&str, Shape)] = &[
         small_month_of(random, shares)
     }),
     ("negative prices", |random| {
-        let mut draft = small_month(random, true);
+        let refixed = is_refixed(random);
+        let mut draft = small_month(random, refixed);
         for price in &mut draft.prices {
             price.price_ore = -1 - random.any_size(4_999_999) as i32;
         }
         draft
     }),
     ("prices at their limits", |random| {
-        let mut draft = small_month(random, true);
+        let refixed = is_refixed(random);
+        let mut draft = small_month(random, refixed);
         for price in &mut draft.prices {
             price.price_ore = *random.pick(&[-5_000_000, 5_000_000]);
         }
@@ -221,26 +292,31 @@ pub const SHAPES: &[(&str, Shape)] = &[
     ("negative net supply", negative_net_supply),
     ("flows at their limits", flows_at_limits),
     ("many overlapping readings", |random| {
-        let (parties, readings) = (1 + random.below(8), 500 + random.below(2_600));
-        month(random, 745, parties, false, readings)
+        // As many hours as leave room for them.
+        let (hours, refixed) = *random.pick(&[(400, true), (600, true), (745, false)]);
+        let most = if hours == 600 { 1_700 } else { 3_100 };
+        let (parties, readings) = (1 + random.below(8), random.between(500, most) as usize);
+        month(random, hours, parties, refixed, readings)
     }),
     ("E 0 over zero weights", nothing_over_zero_weights),
     ("E at its limit", |random| {
-        let mut draft = month_of_residual(random, 2_000_000_000, false);
+        let refixed = is_refixed(random);
+        let mut draft = month_of_residual(random, 2_000_000_000, refixed);
         let hours = draft.fixed.len();
         add_reading(random, &mut draft, 0, hours, READING_WH_MAX as u32);
         add_reading(random, &mut draft, 0, 1, READING_WH_MAX as u32);
         draft
     }),
     ("residual at its limit", |random| {
-        let refixed = random.once_in(2);
+        let refixed = is_refixed(random);
         let mut draft = month_of_residual(random, 2_000_000_000, refixed);
         add_readings(random, &mut draft, 4);
         draft
     }),
     ("curve number at its limit", curve_number_at_limit),
     ("2,000,000,000 periodised in an hour", |random| {
-        let mut draft = month_of_residual(random, 1_500_000_000, false);
+        let refixed = is_refixed(random);
+        let mut draft = month_of_residual(random, 1_500_000_000, refixed);
         let hour = random.below(draft.fixed.len());
         add_reading(random, &mut draft, hour, hour + 1, READING_WH_MAX as u32);
         add_reading(random, &mut draft, hour, hour + 1, READING_WH_MAX as u32);
@@ -248,7 +324,8 @@ pub const SHAPES: &[(&str, Shape)] = &[
     }),
     ("65,536 bytes", longest_file),
     ("heading at its limits", |random| {
-        let mut draft = small_month(random, true);
+        let refixed = is_refixed(random);
+        let mut draft = small_month(random, refixed);
         draft.heading.area = *random.pick(&[1, 99, 100, 999]);
         draft.heading.year = *random.pick(&[2000, 2099]);
         draft.heading.month = *random.pick(&[1, 9, 10, 12]);
@@ -256,12 +333,14 @@ pub const SHAPES: &[(&str, Shape)] = &[
         draft
     }),
     ("no readings", |random| {
-        let mut draft = small_month(random, true);
+        let refixed = is_refixed(random);
+        let mut draft = small_month(random, refixed);
         draft.readings.clear();
         draft
     }),
     ("GLNs at their limits", |random| {
-        let mut draft = month(random, 2, 5, false, 3);
+        let refixed = is_refixed(random);
+        let mut draft = month(random, 2, 5, refixed, 3);
         draft.parties[0].gln = with_check_digit(0);
         draft.parties[1].gln = with_check_digit(1);
         draft.parties[3].gln = with_check_digit(999_999_999_998);
@@ -269,7 +348,8 @@ pub const SHAPES: &[(&str, Shape)] = &[
         draft
     }),
     ("positive residuals, curve numbers 0", |random| {
-        let mut draft = month_of_shares(random, 6, vec![4_000_000_000, 0], false);
+        let refixed = is_refixed(random);
+        let mut draft = month_of_shares(random, 6, vec![4_000_000_000, 0], refixed);
         set_residuals(random, &mut draft.fixed, 1..=3_999);
         add_readings(random, &mut draft, 3);
         draft
@@ -285,15 +365,18 @@ pub const SHAPES: &[(&str, Shape)] = &[
         let shares = (0..parties).map(|_| *random.pick(&[0, 1, 2, 2, 6, 6]));
         let mut shares: Vec<u64> = shares.collect();
         shares[parties / 2] = 6;
-        let hours = 10 + random.below(40);
-        let mut draft = month_of_shares(random, hours, shares, false);
-        set_residuals(random, &mut draft.fixed, 0..=13);
+        let (hours, refixed) = (10 + random.below(40), is_refixed(random));
+        let mut draft = month_of_shares(random, hours, shares, refixed);
+        for series in [&mut draft.fixed, &mut draft.refixed] {
+            set_residuals(random, series, 0..=13);
+        }
         add_readings(random, &mut draft, 5);
         draft
     }),
     ("amounts of half an øre", |random| {
         let shares = shares_of_sum(random, 3, 9);
-        let mut draft = month_of_shares(random, 3, shares, true);
+        let refixed = is_refixed(random);
+        let mut draft = month_of_shares(random, 3, shares, refixed);
         set_residuals(random, &mut draft.fixed, 1_000..=2_000);
         add_readings(random, &mut draft, 3);
         // Any difference at these prices is a whole number of half øre.
@@ -304,17 +387,25 @@ pub const SHAPES: &[(&str, Shape)] = &[
     }),
     ("largest sums", |random| {
         let shares = shares_of_sum(random, 64, 4_000_000_000);
-        let mut draft = month_of_shares(random, 745, shares, false);
-        set_residuals(random, &mut draft.fixed, 2_000_000_000..=2_000_000_000);
+        let refixed = is_refixed(random);
+        let mut draft = month_of_shares(random, 745, shares, refixed);
+        for series in [&mut draft.fixed, &mut draft.refixed] {
+            set_residuals(random, series, 2_000_000_000..=2_000_000_000);
+        }
         add_readings(random, &mut draft, 60);
         draft
     }),
     ("largest amounts", largest_amounts),
     ("745 hours, one party", |random| {
-        let refixed = random.once_in(2);
+        let refixed = is_refixed(random);
         month(random, 745, 1, refixed, 30)
     }),
 ];
+
+/// Whether a month gets a refixed series: four times in five.
+pub fn is_refixed(random: &mut Random) -> bool {
+    !random.once_in(5)
+}
 
 /// A month of random figures, accepted by its making.
 pub fn month(
@@ -336,7 +427,7 @@ fn small_month(random: &mut Random, refixed: bool) -> Draft {
 }
 
 fn small_month_of(random: &mut Random, shares_kwh: Vec<u64>) -> Draft {
-    let (hours, refixed) = (1 + random.below(6), random.once_in(2));
+    let (hours, refixed) = (1 + random.below(6), is_refixed(random));
     let mut draft = month_of_shares(random, hours, shares_kwh, refixed);
     add_readings(random, &mut draft, 4);
     draft
@@ -557,7 +648,7 @@ fn residual_of(flows: &HourFlows) -> u32 {
 /// Spans of hours whose residual is a real zero, in the fixed series and, elsewhere, in the refixed one.
 fn real_zeros(random: &mut Random) -> Draft {
     let (hours, parties) = (6 + random.below(30), 1 + random.below(5));
-    let refixed = random.once_in(2);
+    let refixed = is_refixed(random);
     let mut draft = month(random, hours, parties, refixed, 0);
     for series in [&mut draft.fixed, &mut draft.refixed] {
         let from = random.below(hours / 2);
@@ -571,7 +662,7 @@ fn real_zeros(random: &mut Random) -> Draft {
 
 /// Every hour a real zero: no curve, nothing distributed, readings of 0 only.
 fn no_consumption(random: &mut Random) -> Draft {
-    let refixed = random.once_in(2);
+    let refixed = is_refixed(random);
     let mut draft = month(random, 5, 3, refixed, 0);
     for series in [&mut draft.fixed, &mut draft.refixed] {
         set_residuals(random, series, 0..=0);
@@ -582,7 +673,7 @@ fn no_consumption(random: &mut Random) -> Draft {
 
 /// Estimated hours in both series, at different hours, so that the count shows which series is applied.
 fn estimated_hours(random: &mut Random) -> Draft {
-    let (hours, refixed) = (4 + random.below(20), random.once_in(2));
+    let (hours, refixed) = (4 + random.below(20), is_refixed(random));
     let mut draft = month(random, hours, 3, refixed, 5);
     for (series, once_in) in [(&mut draft.fixed, 2), (&mut draft.refixed, 3)] {
         for flows in series.iter_mut() {
@@ -599,7 +690,8 @@ fn estimated_hours(random: &mut Random) -> Draft {
 
 /// An area that produces more than it uses.
 fn negative_net_supply(random: &mut Random) -> Draft {
-    let mut draft = small_month(random, true);
+    let refixed = is_refixed(random);
+    let mut draft = small_month(random, refixed);
     for series in [&mut draft.fixed, &mut draft.refixed] {
         for flows in series.iter_mut() {
             let residual = residual_of(flows) as u64;
@@ -628,7 +720,8 @@ const FLOWS_AT_LIMITS: [(i64, u64, u64, u64); 7] = [
 fn flows_at_limits(random: &mut Random) -> Draft {
     let hours = FLOWS_AT_LIMITS.len();
     let shares = shares_of_sum(random, 3, 4_000_000_000);
-    let mut draft = month_of_shares(random, hours, shares, true);
+    let refixed = is_refixed(random);
+    let mut draft = month_of_shares(random, hours, shares, refixed);
     let turned = random.below(hours);
     for (series, turned) in [(&mut draft.fixed, 0), (&mut draft.refixed, turned)] {
         for (hour, flows) in series.iter_mut().enumerate() {
@@ -645,7 +738,8 @@ fn flows_at_limits(random: &mut Random) -> Draft {
 
 /// Readings of 0 over hours without any weight, beside others.
 fn nothing_over_zero_weights(random: &mut Random) -> Draft {
-    let mut draft = month(random, 6, 3, false, 0);
+    let refixed = is_refixed(random);
+    let mut draft = month(random, 6, 3, refixed, 0);
     for hour in 2..4 {
         draft.fixed[hour] = random_hour(random, hour, 0);
     }
@@ -660,7 +754,7 @@ fn curve_number_at_limit(random: &mut Random) -> Draft {
     let share_sum = random.between(1, 1_999_000) as u64;
     let parties = 1 + random.below(3);
     let shares = shares_of_sum(random, parties, share_sum);
-    let refixed = random.once_in(2);
+    let refixed = is_refixed(random);
     let mut draft = month_of_shares(random, 4, shares, refixed);
     for hour in [0, 2] {
         let residual = *random.pick(&[share_sum as i64 * 1_000, most_residual_wh(share_sum)]);
@@ -674,9 +768,10 @@ fn curve_number_at_limit(random: &mut Random) -> Draft {
 fn longest_file(random: &mut Random) -> Draft {
     loop {
         let few_hours = 1 + random.below(9);
-        let hours = *random.pick(&[few_hours, 300, 511, 739, 744]);
-        let parties = 1 + random.below(64);
-        let mut draft = month(random, hours, parties, hours < 600, 0);
+        // With an even number of hours no number of readings comes to it.
+        let hours = *random.pick(&[few_hours, 301, 511, 739, 745]);
+        let (parties, refixed) = (1 + random.below(64), is_refixed(random));
+        let mut draft = month(random, hours, parties, refixed, 0);
         let left = FILE_BYTES_MAX - draft.bytes().len();
         let one_reading = 10;
         if left.is_multiple_of(one_reading) {
@@ -686,14 +781,26 @@ fn longest_file(random: &mut Random) -> Draft {
     }
 }
 
-/// All is distributed to party 0 and all is read at party 1, every hour 2,000,000,000 Wh at the highest price.
+/// All is distributed to party 0, every hour 2,000,000,000 Wh at the highest price, and all is read at party 1. With a
+/// refixed series the file has no room for so many readings: party 1 carries the loss, and has the rest as that.
 fn largest_amounts(random: &mut Random) -> Draft {
-    let hours = 745;
-    let mut draft = month_of_shares(random, hours, vec![4_000_000_000, 0, 0], false);
+    let (hours, refixed) = (745, random.once_in(2));
+    let mut draft = month_of_shares(random, hours, vec![4_000_000_000, 0, 0], refixed);
+    for series in [&mut draft.fixed, &mut draft.refixed] {
+        for (hour, flows) in series.iter_mut().enumerate() {
+            *flows = measured_hour(hour, 2_000_000_000);
+        }
+    }
     let price_ore = *random.pick(&[-5_000_000, 5_000_000]);
-    for hour in 0..hours {
-        draft.fixed[hour] = measured_hour(hour, 2_000_000_000);
-        draft.prices[hour].price_ore = price_ore;
+    for price in &mut draft.prices {
+        price.price_ore = price_ore;
+    }
+    let mut hours_read = hours;
+    if refixed {
+        draft.heading.carrier = 1;
+        hours_read = 300;
+    }
+    for hour in 0..hours_read {
         let reading = Reading {
             party: 1,
             a: hour as u16,

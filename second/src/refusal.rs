@@ -1,9 +1,9 @@
-//! The refusals of 01 ("Refusal numbers"): a number and a place. Each number stands here once, under its row of the
-//! table.
+//! The refusals of 01 ("Refusal numbers") and 02: a number and a place. Each number stands here once, under its row of the
+//! table or the words of its request.
 
 use std::fmt;
 
-/// The refusal numbers, each with the words "given when" of its row.
+/// The refusal numbers, each with the words "given when" of its row, or of its request.
 #[derive(Clone, Copy, Debug, PartialEq, Eq, PartialOrd, Ord)]
 pub enum Number {
     /// "file empty or too long; a body cut short; no end record; bytes after it"
@@ -38,6 +38,8 @@ pub enum Number {
     WrongCount = 15,
     /// "a lent output is not of the needed length (record writer: too short)"
     WrongOutputLength = 16,
+    /// W1: "no refixed series in a final run"
+    NoRefixedSeries = 17,
 }
 
 impl Number {

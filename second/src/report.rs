@@ -1,8 +1,10 @@
-//! The programs that print a report of one month file: which there are, and what each prints.
+//! The programs that print a report of one month file: which there are, the setting of each, and what it prints.
 
 use crate::hours;
-use crate::month::Month;
+use crate::month::{settle, Month};
+use crate::preview;
 use crate::refusal::Refusal;
+use crate::setting::Setting;
 use crate::statement;
 
 /// A program, by what it reports of a month.
@@ -10,20 +12,42 @@ use crate::statement;
 pub enum Report {
     Statement,
     Hours,
+    Preview,
 }
 
 impl Report {
-    /// The report that a word names; None for another word.
-    pub fn named(word: &str) -> Option<Report> {
-        match word {
-            "statement" => Some(Report::Statement),
-            "hours" => Some(Report::Hours),
-            _ => None,
+    pub const ALL: [Report; 3] = [Report::Statement, Report::Hours, Report::Preview];
+
+    /// The program's name: the word of the command, and the ending of a file that stores its output.
+    pub fn word(self) -> &'static str {
+        match self {
+            Report::Statement => "statement",
+            Report::Hours => "hours",
+            Report::Preview => "preview",
         }
     }
 
-    /// What the program prints for a month that was settled or refused: its report, or the one line of the refusal, which
-    /// is the same in all.
+    /// The report that a word names; None for another word.
+    pub fn named(word: &str) -> Option<Report> {
+        Report::ALL.into_iter().find(|report| report.word() == word)
+    }
+
+    /// "The statement program keeps final as its setting; a preview program asks for provisional" (02, W1). The hours
+    /// program is final too.
+    pub fn setting(self) -> Setting {
+        match self {
+            Report::Statement | Report::Hours => Setting::Final,
+            Report::Preview => Setting::Provisional,
+        }
+    }
+
+    /// What the program prints for a month file.
+    pub fn of(self, file: &[u8]) -> String {
+        self.printed(&settle(file, self.setting()))
+    }
+
+    /// What the program prints for a month that was settled or refused in its setting: its report, or the one line of the
+    /// refusal, which is the same in all.
     pub fn printed(self, judged: &Result<Month, Refusal>) -> String {
         match judged {
             Ok(month) => self.text(month),
@@ -35,6 +59,7 @@ impl Report {
         match self {
             Report::Statement => statement::text(month),
             Report::Hours => hours::text(month),
+            Report::Preview => preview::text(month),
         }
     }
 }

@@ -4,10 +4,11 @@ mod common;
 
 use std::process::{Command, Output};
 
-use common::{assert_accepted, assert_refused};
+use common::{assert_accepted, assert_accepted_as_provisional, assert_refused};
 use second::bench::{bench_file, Fault, Readings, Size};
 use second::limits::FILE_BYTES_MAX;
 use second::month::settle;
+use second::setting::Setting;
 
 fn size(hours: usize, parties: usize, refixed: bool, readings: Readings, span: usize) -> Size {
     Size {
@@ -29,8 +30,12 @@ fn a_file_is_of_its_size() {
     ] {
         let size = size(hours, parties, refixed, Readings::Count(readings), span);
         let file = bench_file(&size, None);
-        assert_accepted(&file);
-        let month = settle(&file).unwrap();
+        if refixed {
+            assert_accepted(&file);
+        } else {
+            assert_accepted_as_provisional(&file);
+        }
+        let month = settle(&file, Setting::Provisional).unwrap();
         assert_eq!(
             (month.hours.len(), month.file.parties.len()),
             (hours, parties)
@@ -47,13 +52,36 @@ fn a_file_is_of_its_size() {
 
 #[test]
 fn the_most_readings_leave_no_room_for_another() {
-    for (hours, parties, readings) in [(745, 1, 3_346), (1, 1, 6_545), (1, 4, 6_539)] {
-        let size = size(hours, parties, false, Readings::Most, hours);
+    for (hours, parties, refixed, readings) in [
+        (745, 1, false, 3_346),
+        (1, 1, false, 6_545),
+        (1, 4, false, 6_539),
+        (412, 1, true, 3_295),
+        (1, 1, true, 6_542),
+        (1, 6, true, 6_531),
+    ] {
+        let size = size(hours, parties, refixed, Readings::Most, hours);
         let file = bench_file(&size, None);
-        assert_accepted(&file);
         assert!((FILE_BYTES_MAX - 9..=FILE_BYTES_MAX).contains(&file.len()));
-        assert_eq!(settle(&file).unwrap().file.readings.len(), readings);
+        let month = settle(&file, Setting::Provisional).unwrap();
+        assert_eq!(month.refixed_wh.is_empty(), !refixed);
+        assert_eq!(month.file.readings.len(), readings);
     }
+}
+
+/// Which number of hours lets a file of one party ask for the most hours of readings, each of the whole month.
+#[test]
+fn the_most_hours_of_readings() {
+    let most = |refixed: bool| {
+        let asked = |hours: usize| {
+            let hour = if refixed { 36 + 36 + 7 } else { 36 + 7 };
+            hours * ((FILE_BYTES_MAX - 10 - 22 - 5 - hours * hour) / 10)
+        };
+        let hours = (1..=745).max_by_key(|&hours| asked(hours)).unwrap();
+        (hours, asked(hours))
+    };
+    assert_eq!(most(true), (412, 412 * 3_295));
+    assert_eq!(most(false), (745, 745 * 3_346));
 }
 
 #[test]
@@ -86,8 +114,12 @@ fn the_command_writes_the_file() {
         let printed = command(&format!("{line} --fault {word}"));
         assert_eq!(printed.stdout, bench_file(&size, Some(fault)));
     }
-    let most = command("bench-file --hours 1 --parties 4 --series fixed --readings most --span 1");
-    assert_eq!(most.stdout.len(), FILE_BYTES_MAX);
+    for longest in [
+        "bench-file --hours 1 --parties 4 --series fixed --readings most --span 1",
+        "bench-file --hours 1 --parties 6 --series refixed --readings most --span 1",
+    ] {
+        assert_eq!(command(longest).stdout.len(), FILE_BYTES_MAX);
+    }
 }
 
 #[test]

@@ -12,6 +12,7 @@ use second::random::Random;
 use second::reconciliation::{invoice_ore, reconciliation};
 use second::record::Reading;
 use second::residual::{curve, residual};
+use second::setting::Setting;
 use second::statement::statement;
 
 #[test]
@@ -29,7 +30,7 @@ total 126000000 123200000 2800000 0 0
 #[test]
 fn s1_hours_are_those_of_h2_6_3() {
     let file = examples::s1().bytes();
-    let month = second::month::settle(&file).unwrap();
+    let month = second::month::settle(&file, Setting::Final).unwrap();
     assert_eq!(month.curve, [4_000_000, 5_000_000, 4_000_000]);
     let distributed: Vec<_> = month.hours.iter().map(|h| &h.distributed_wh[..]).collect();
     assert_eq!(
@@ -155,7 +156,7 @@ fn m1_halves_go_away_from_zero() {
 
 /// A month of so many hours and parties that is good but for its size.
 fn sized(hours: usize, parties: usize) -> Draft {
-    month(&mut Random::of_file(1, 1), hours, parties, false, 10)
+    month(&mut Random::of_file(1, 1), hours, parties, true, 10)
 }
 
 #[test]

@@ -3,11 +3,12 @@
 
 use second::draft::{measured_hour, prices_of, Draft};
 use second::examples::{d3, s1, silent};
-use second::hours::{hours, text};
+use second::hours::{hours, text as text_of};
 use second::make::{files, Aim};
 use second::month::settle;
 use second::record::Reading;
-use second::statement::statement;
+use second::setting::Setting;
+use second::statement::{self, statement};
 
 fn changed(change: impl FnOnce(&mut Draft)) -> String {
     let mut draft = s1();
@@ -28,7 +29,7 @@ fn s1_prints_its_seven_lines() {
     assert_eq!(hours(&s1().bytes()), expected);
 }
 
-/// S1's parties with these load shares, so many hours of these residuals, and no readings.
+/// S1's parties with these load shares, so many hours of these residuals, fixed and refixed alike, and no readings.
 fn month_of(shares_kwh: &[u64; 3], residuals_wh: &[i64]) -> Draft {
     let mut draft = s1();
     draft.heading.hours = residuals_wh.len() as u16;
@@ -37,7 +38,7 @@ fn month_of(shares_kwh: &[u64; 3], residuals_wh: &[i64]) -> Draft {
     }
     let series = residuals_wh.iter().enumerate();
     draft.fixed = series.map(|(hour, &wh)| measured_hour(hour, wh)).collect();
-    draft.refixed.clear();
+    draft.refixed = draft.fixed.clone();
     draft.prices = prices_of(residuals_wh.iter().map(|_| 30_000));
     draft.readings.clear();
     draft
@@ -145,19 +146,21 @@ fn fixed_and_applied_statuses_are_told_apart() {
         ]
     );
     assert!(text.starts_with("area 007 2016-04 hours 3 parties 3 estimated 2\n"));
-    // Without a refixed series the fixed one is applied.
-    let text = changed(|draft| {
-        estimated(draft);
-        draft.refixed.clear();
-    });
+    // Without a refixed series the fixed one is applied, in a provisional run: the program itself is final.
+    let mut draft = s1();
+    estimated(&mut draft);
+    draft.refixed.clear();
+    let file = draft.bytes();
+    let month = settle(&file, Setting::Provisional).unwrap();
     assert_eq!(
-        statuses(&text),
+        statuses(&text_of(&month)),
         [
             "0 estimated estimated",
             "1 measured measured",
             "2 estimated estimated"
         ]
     );
+    assert_eq!(hours(&file), "refused 17 at 0\n");
 }
 
 #[test]
@@ -282,10 +285,16 @@ fn breach(text: &str, hours: usize, glns: &[&[u8]], share_sum_kwh: u64) -> Optio
 fn every_line_holds_for_every_valid_shape() {
     let (mut months, mut refixed, mut negative, mut positive) = (0, 0, 0, 0);
     for seed in 42..45 {
-        for made in files(seed, 120).filter(|made| made.aim == Aim::Accepted) {
-            let month = settle(&made.bytes).unwrap();
+        for made in files(seed, 120).filter(|made| made.provisional_aim == Aim::Accepted) {
+            let month = settle(&made.bytes, Setting::Provisional).unwrap();
             let glns: Vec<&[u8]> = month.file.parties.iter().map(|party| party.gln).collect();
-            let text = hours(&made.bytes);
+            let text = text_of(&month);
+            let printed = if made.refixed {
+                text.as_str()
+            } else {
+                "refused 17 at 0\n"
+            };
+            assert_eq!(hours(&made.bytes), printed, "{}", made.name);
             let breach = breach(&text, month.hours.len(), &glns, month.share_sum_kwh);
             assert_eq!(breach, None, "{}", made.name);
             let lines: Vec<&str> = text.lines().skip(1).collect();
@@ -309,9 +318,9 @@ fn every_line_holds_for_every_valid_shape() {
 /// The hours' columns add up to the statement's total line.
 #[test]
 fn the_hours_add_up_to_the_statement() {
-    for made in files(45, 120).filter(|made| made.aim == Aim::Accepted) {
-        let month = settle(&made.bytes).unwrap();
-        let text = text(&month);
+    for made in files(45, 120).filter(|made| made.provisional_aim == Aim::Accepted) {
+        let month = settle(&made.bytes, Setting::Provisional).unwrap();
+        let text = text_of(&month);
         let mut sums = [0; 3];
         for (hour, line) in text.lines().skip(1).take(month.hours.len()).enumerate() {
             let numbers = hour_numbers(line, hour);
@@ -321,18 +330,19 @@ fn the_hours_add_up_to_the_statement() {
         }
         let [distributed, periodised, loss] = sums;
         let total = format!("\ntotal {distributed} {periodised} {loss} 0 ");
-        assert!(statement(&made.bytes).contains(&total), "{}", made.name);
+        let statement = statement::text(&month);
+        assert!(statement.contains(&total), "{}", made.name);
     }
 }
 
 /// What the text says of three hours of this residual among equal shares whose figures are replaced by these.
 fn text_of_figures(residual_wh: i64, figures: [[i64; 3]; 3]) -> String {
     let file = month_of(&[1_000_000; 3], &[residual_wh; 3]).bytes();
-    let mut month = settle(&file).unwrap();
+    let mut month = settle(&file, Setting::Final).unwrap();
     for (hour, figures) in month.hours.iter_mut().zip(figures) {
         hour.distributed_wh = figures.to_vec();
     }
-    text(&month)
+    text_of(&month)
 }
 
 /// The report is of the figures: the wrong ones that 01 warns of are seen in it.

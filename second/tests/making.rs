@@ -16,65 +16,113 @@ use second::make::{file, files, month, write_files, Aim, MadeFile, Tally, SHAPES
 use second::month::{settle, Month};
 use second::random::Random;
 use second::report::Report;
-use second::statement::statement;
+use second::setting::Setting;
 
-/// What the maker meant and what the reader says, each from its own side.
+/// What the maker meant and what the reader says, each from its own side, in either setting.
 #[test]
 fn every_aim_is_met() {
     for seed in [1, 2, 77] {
         for made in files(seed, 1_200) {
-            let answer = settle(&made.bytes).map(|_| ());
-            let MadeFile { number, name, .. } = made;
-            match made.aim {
-                Aim::Accepted => assert_eq!(answer, Ok(()), "seed {seed} file {number} {name}"),
-                Aim::Refused(refusal) => {
-                    assert_eq!(answer, Err(refusal), "seed {seed} file {number} {name}");
+            for setting in Setting::ALL {
+                let answer = settle(&made.bytes, setting).map(|_| ());
+                let MadeFile { number, name, .. } = made;
+                let which = format!("seed {seed} file {number} {name} {}", setting.word());
+                match made.aim(setting) {
+                    Aim::Accepted => assert_eq!(answer, Ok(()), "{which}"),
+                    Aim::Refused(refusal) => assert_eq!(answer, Err(refusal), "{which}"),
+                    Aim::Anything => {}
                 }
-                Aim::Anything => {}
             }
         }
     }
 }
 
+/// The tally of what a report's program is to answer to the first so many files of a seed.
+fn tally_of(report: Report, seed: u64, count: u64) -> Tally {
+    let mut tally = Tally::new(report.setting());
+    files(seed, count).for_each(|made| tally.count(&settle(&made.bytes, report.setting())));
+    tally
+}
+
 #[test]
-fn all_refusals_and_sizes_occur_in_200_files() {
+fn all_refusals_and_sizes_occur_in_200_files_for_every_report() {
     for seed in 0..5 {
-        let mut tally = Tally::default();
-        files(seed, 200).for_each(|made| tally.count(&settle(&made.bytes)));
-        assert_eq!(tally.complete(), Ok(()), "seed {seed}");
+        for report in Report::ALL {
+            let tally = tally_of(report, seed, 200);
+            assert_eq!(tally.complete(), Ok(()), "seed {seed} {}", report.word());
+            assert_eq!(tally.refused[16], 0);
+        }
+    }
+}
+
+/// Most months are refixed, so that 17 hides little of what a final run judges after it; and enough are not.
+#[test]
+fn about_a_fifth_of_the_months_are_not_refixed() {
+    let made: Vec<MadeFile> = files(9, 1_800).collect();
+    for damaged in [true, false] {
+        let months = made
+            .iter()
+            .filter(|made| (made.provisional_aim != Aim::Accepted) == damaged);
+        let (refixed, not_refixed): (Vec<_>, Vec<_>) = months.partition(|made| made.refixed);
+        let share = not_refixed.len() as f64 / (refixed.len() + not_refixed.len()) as f64;
+        assert!((0.15..0.3).contains(&share), "{share}");
+    }
+    let as_final = tally_of(Report::Statement, 9, 1_800);
+    let as_provisional = tally_of(Report::Preview, 9, 1_800);
+    assert!(as_final.accepted > 400 && as_final.not_refixed == 0);
+    assert!(as_provisional.not_refixed > 100);
+    // Everything that comes after the reading is still told by final runs, and by provisional ones of such months.
+    for number in [6, 7, 8, 9, 10, 13, 14] {
+        let (told, told_in_all) = (as_final.refused[number], as_provisional.refused[number]);
+        assert!(told >= 8 && told_in_all > told, "{number}");
     }
 }
 
 #[test]
 fn what_did_not_occur_is_named() {
-    let mut tally = Tally::default();
-    tally.count(&settle(&[]));
-    let missing = tally.complete().unwrap_err();
-    assert!(
-        missing.starts_with("did not occur: refused 2; refused 3; "),
-        "{missing}"
-    );
-    assert!(
-        missing.ends_with("; refused 15; accepted, small; accepted, of full size"),
-        "{missing}"
-    );
-    // Full size is 745 hours and 64 parties: either alone is small.
     let random = &mut Random::of_file(1, 1);
-    for (hours, parties) in [(744, 64), (745, 63), (745, 64)] {
-        tally.count(&settle(&month(random, hours, parties, true, 2).bytes()));
+    for (setting, end) in [
+        (
+            Setting::Final,
+            "; refused 15; refused 17; accepted, small; accepted, of full size; accepted, refixed",
+        ),
+        (
+            Setting::Provisional,
+            "; refused 15; accepted, small; accepted, of full size; accepted, refixed; accepted, not refixed",
+        ),
+    ] {
+        let mut tally = Tally::new(setting);
+        tally.count(&settle(&[], setting));
+        let missing = tally.complete().unwrap_err();
+        assert!(
+            missing.starts_with("did not occur: refused 2; refused 3; "),
+            "{missing}"
+        );
+        assert!(missing.ends_with(end), "{missing}");
+        // Full size is 745 hours and 64 parties: either alone is small.
+        for (hours, parties) in [(744, 64), (745, 63), (745, 64)] {
+            let file = month(random, hours, parties, true, 2).bytes();
+            tally.count(&settle(&file, setting));
+        }
+        assert_eq!((tally.accepted, tally.of_full_size), (3, 1));
+        let file = month(random, 2, 2, false, 2).bytes();
+        tally.count(&settle(&file, setting));
+        let provisional = u64::from(setting == Setting::Provisional);
+        let mut twice = Tally::new(setting);
+        twice.add(&tally);
+        twice.add(&tally);
+        assert_eq!(twice.accepted, 6 + 2 * provisional);
+        assert_eq!((twice.of_full_size, twice.not_refixed), (2, 2 * provisional));
+        assert_eq!((twice.refused[1], twice.refused[17]), (2, 2 - 2 * provisional));
+        let missing = twice.complete().unwrap_err();
+        assert!(missing.ends_with("; refused 15"), "{missing}");
     }
-    assert_eq!((tally.accepted, tally.of_full_size), (3, 1));
-    let mut twice = Tally::default();
-    twice.add(&tally);
-    twice.add(&tally);
-    assert_eq!((twice.accepted, twice.of_full_size), (6, 2));
-    assert_eq!(twice.refused[1], 2);
 }
 
 #[test]
 fn all_shapes_occur_in_100_files_and_all_damages_in_one_round() {
     let shapes: BTreeSet<&str> = files(3, 100)
-        .filter(|made| made.aim == Aim::Accepted)
+        .filter(|made| made.provisional_aim == Aim::Accepted)
         .map(|made| made.name)
         .collect();
     assert_eq!(shapes.len(), SHAPES.len());
@@ -89,87 +137,88 @@ fn all_shapes_occur_in_100_files_and_all_damages_in_one_round() {
     }
 }
 
-/// Whether one of the first valid files of a seed has this property.
-fn some_month(property: impl Fn(&MadeFile, &Month) -> bool) -> bool {
-    files(5, 100)
-        .filter(|made| made.aim == Aim::Accepted)
-        .any(|made| property(&made, &settle(&made.bytes).unwrap()))
-}
+type Property = fn(&MadeFile, &Month) -> bool;
 
-/// The shapes have what their names say.
-#[test]
-fn valid_files_reach_the_limits() {
-    assert!(some_month(|made, _| made.bytes.len() == FILE_BYTES_MAX));
-    assert!(some_month(
-        |_, month| month.hours.len() == 745 && month.file.parties.len() == 64
-    ));
-    assert!(some_month(|_, month| {
-        month.hours.len() == 745 && month.file.parties.len() == 64 && !month.refixed_wh.is_empty()
-    }));
-    assert!(some_month(
-        |_, month| month.hours.len() == 1 && month.file.parties.len() == 1
-    ));
-    assert!(some_month(|_, month| month.share_sum_kwh == 1));
-    assert!(some_month(|_, month| month.share_sum_kwh == 4_000_000_000));
-    assert!(some_month(|_, month| month
-        .fixed_wh
-        .contains(&2_000_000_000)));
-    assert!(some_month(|_, month| month.curve.contains(&1_000_000_000)));
-    assert!(some_month(|_, month| month.file.readings.len() > 500));
-    assert!(some_month(|_, month| month.file.readings.is_empty()));
-    assert!(some_month(|_, month| month.estimated_hours() > 2));
-    assert!(some_month(|_, month| {
-        let readings = &month.file.readings;
-        readings.iter().any(|reading| reading.e_wh == 1_000_000_000)
-    }));
-    assert!(some_month(|_, month| {
-        let hours = month.hours.iter();
-        hours
-            .map(|h| h.periodised_wh.iter().sum::<i64>())
-            .any(|all| all == 2_000_000_000)
-    }));
-    assert!(some_month(|_, month| {
-        let fixed = &month.file.fixed;
-        fixed
-            .iter()
-            .any(|flows| flows.net_supply_wh == -8_000_000_000)
-    }));
-    assert!(some_month(|_, month| month
-        .file
-        .prices
-        .iter()
-        .all(|p| p.price_ore < 0)));
-    assert!(some_month(|_, month| month
-        .hours
-        .iter()
-        .all(|h| h.reconciled.loss_wh < 0)));
-    assert!(some_month(|_, month| month
-        .fixed_wh
-        .iter()
-        .all(|&residual| residual == 0)));
-    assert!(some_month(|_, month| {
-        let readings = &month.file.readings;
-        readings.iter().any(|reading| {
+/// What the names of the shapes say.
+const PROPERTIES: &[(&str, Property)] = &[
+    ("65,536 bytes", |made, _| made.bytes.len() == FILE_BYTES_MAX),
+    ("full size", |_, month| {
+        month.hours.len() == 745 && month.file.parties.len() == 64
+    }),
+    ("one hour, one party", |_, month| {
+        month.hours.len() == 1 && month.file.parties.len() == 1
+    }),
+    ("W 1", |_, month| month.share_sum_kwh == 1),
+    ("largest W", |_, month| month.share_sum_kwh == 4_000_000_000),
+    ("largest residual", |_, month| {
+        month.fixed_wh.contains(&2_000_000_000)
+    }),
+    ("largest curve number", |_, month| {
+        month.curve.contains(&1_000_000_000)
+    }),
+    ("many readings", |_, month| month.file.readings.len() > 500),
+    ("no reading", |_, month| month.file.readings.is_empty()),
+    ("estimated hours", |_, month| month.estimated_hours() > 2),
+    ("largest E", |_, month| {
+        let mut readings = month.file.readings.iter();
+        readings.any(|reading| reading.e_wh == 1_000_000_000)
+    }),
+    ("most periodised in an hour", |_, month| {
+        let mut hours = month.hours.iter();
+        hours.any(|hour| hour.periodised_wh.iter().sum::<i64>() == 2_000_000_000)
+    }),
+    ("lowest net supply", |_, month| {
+        let mut fixed = month.file.fixed.iter();
+        fixed.any(|flows| flows.net_supply_wh == -8_000_000_000)
+    }),
+    ("negative prices", |_, month| {
+        month.file.prices.iter().all(|price| price.price_ore < 0)
+    }),
+    ("negative losses", |_, month| {
+        month.hours.iter().all(|hour| hour.reconciled.loss_wh < 0)
+    }),
+    ("no consumption", |_, month| {
+        month.fixed_wh.iter().all(|&residual| residual == 0)
+    }),
+    ("a reading without weight", |_, month| {
+        let mut readings = month.file.readings.iter();
+        readings.any(|reading| {
             let span = usize::from(reading.a)..usize::from(reading.b);
             month.curve[span].iter().all(|&number| number == 0)
                 && month.curve.iter().any(|&n| n > 0)
         })
-    }));
-    assert!(some_month(|_, month| {
-        month
-            .hours
-            .iter()
-            .any(|hour| hour.distributed_wh.contains(&-1))
-    }));
-    assert!(some_month(|_, month| {
+    }),
+    ("a figure of -1", |_, month| {
+        let mut hours = month.hours.iter();
+        hours.any(|hour| hour.distributed_wh.contains(&-1))
+    }),
+    ("half an øre", |_, month| {
         let mut sums = month.party_sums().into_iter();
         sums.any(|sums| sums.amount_millionths % 1_000_000 == 500_000)
-    }));
-    assert!(some_month(|_, month| {
-        let sums = month.party_sums();
-        sums.iter()
-            .any(|sums| sums.amount_millionths.abs() == 7_450_000_000_000_000_000)
-    }));
+    }),
+    ("largest amount", |_, month| {
+        let mut sums = month.party_sums().into_iter();
+        sums.any(|sums| sums.amount_millionths.abs() == 7_450_000_000_000_000_000)
+    }),
+];
+
+/// The shapes have what their names say, refixed, which a final run accepts, and not.
+#[test]
+fn valid_files_reach_the_limits() {
+    let mut reached = BTreeSet::new();
+    for made in files(5, 2_400).filter(|made| made.provisional_aim == Aim::Accepted) {
+        let month = settle(&made.bytes, Setting::Provisional).unwrap();
+        assert_eq!(month.refixed_wh.is_empty(), !made.refixed);
+        for (name, property) in PROPERTIES {
+            if !reached.contains(&(made.refixed, name)) && property(&made, &month) {
+                reached.insert((made.refixed, name));
+            }
+        }
+    }
+    for (name, _) in PROPERTIES {
+        assert!(reached.contains(&(true, name)), "{name}");
+        assert!(reached.contains(&(false, name)), "{name}, not refixed");
+    }
 }
 
 #[test]
@@ -205,15 +254,20 @@ fn temporary(name: &str) -> PathBuf {
 }
 
 #[test]
-fn files_are_written_beside_their_expected_output() {
+fn files_are_written_beside_their_expected_outputs() {
     let directory = temporary("make");
-    let tally = write_files(8, 30, &directory).unwrap();
-    assert_eq!(tally.accepted + tally.refused.iter().sum::<u64>(), 30);
+    let tallies = write_files(8, 30, &directory).unwrap();
+    assert_eq!(tallies.each_ref().map(|tally| tally.setting), Setting::ALL);
+    for tally in tallies {
+        assert_eq!(tally.accepted + tally.refused.iter().sum::<u64>(), 30);
+    }
     for made in files(8, 30) {
         let path = directory.join(format!("{:07}.month", made.number));
         assert_eq!(fs::read(&path).unwrap(), made.bytes);
-        let expected = fs::read_to_string(path.with_extension("expected")).unwrap();
-        assert_eq!(expected, statement(&made.bytes));
+        for report in Report::ALL {
+            let expected = fs::read_to_string(path.with_extension(report.word())).unwrap();
+            assert_eq!(expected, report.of(&made.bytes));
+        }
     }
     fs::remove_dir_all(directory).unwrap();
 }
@@ -237,6 +291,7 @@ fn itself(directory: &Path, report: &str) -> PathBuf {
     script(directory, &format!("exec '{second}' {report}"))
 }
 
+/// The check of a statement program.
 fn check(
     program: &Path,
     seed: u64,
@@ -255,16 +310,116 @@ fn check(
     check.run()
 }
 
+/// The check of a preview program, on files in one piece.
+fn check_preview(program: &Path, seed: u64, count: u64) -> Result<Tally, String> {
+    let check = Check {
+        program,
+        report: Report::Preview,
+        seed,
+        count,
+        feeds: &BOTH[..1],
+        threads: 1,
+    };
+    check.run()
+}
+
 #[test]
 fn check_accepts_this_program_itself() {
     let directory = temporary("itself");
     let program = itself(&directory, "statement");
     let tally = check(&program, 6, 200, BOTH, 1).unwrap();
     assert_eq!(tally.complete(), Ok(()));
+    assert_eq!(
+        tally.to_string(),
+        tally_of(Report::Statement, 6, 200).to_string()
+    );
     // The same files on three threads.
     let threaded = check(&program, 6, 200, BOTH, 3).unwrap();
     assert_eq!(threaded.to_string(), tally.to_string());
+    let tally = check_preview(&itself(&directory, "preview"), 6, 200).unwrap();
+    assert_eq!(tally.complete(), Ok(()));
+    assert_eq!(
+        tally.to_string(),
+        tally_of(Report::Preview, 6, 200).to_string()
+    );
     fs::remove_dir_all(directory).unwrap();
+}
+
+/// The file of which a message tells a difference, which is left where it says; then removed with its directory.
+fn left_file(message: &str, seed: u64) -> MadeFile {
+    let number = message.split("file ").nth(1).unwrap();
+    let number = number.split(' ').next().unwrap().parse().unwrap();
+    let made = file(seed, number);
+    assert_left(message, &made);
+    made
+}
+
+/// The wrong programs of W1: a final one in the preview's place and the reverse, the word never, always, or on a refusal,
+/// and 17 told before 15 or after 6.
+#[test]
+fn check_finds_wrong_previews_and_wrong_final_programs() {
+    let directory = temporary("wrong-setting");
+    let second = env!("CARGO_BIN_EXE_second");
+    let with = |report: &str, edit: &str| {
+        script(&directory, &format!("'{second}' {report} | sed '{edit}'"))
+    };
+    let wrong_preview = |program: &Path| {
+        let message = check_preview(program, 19, 60).err().unwrap();
+        (left_file(&message, 19), message)
+    };
+    let (made, message) = wrong_preview(&itself(&directory, "statement"));
+    assert!(!made.refixed);
+    assert!(
+        message.ends_with("but was printed as \"refused 17 at 0\\n\""),
+        "{message}"
+    );
+    let (made, message) = wrong_preview(&with("preview", "1s/ provisional$//"));
+    assert!(
+        !made.refixed && message.contains(" provisional\\n\"\n"),
+        "{message}"
+    );
+    let (made, message) = wrong_preview(&with("preview", "/^area/s/[0-9]$/& provisional/"));
+    assert!(
+        made.refixed && message.ends_with(" provisional\\n\""),
+        "{message}"
+    );
+    let (_, message) = wrong_preview(&with("preview", "/^refused/s/$/ provisional/"));
+    assert!(message.contains("line 1 is to be \"refused "), "{message}");
+    assert!(message.ends_with(" provisional\\n\""), "{message}");
+    let wrong_statement = |program: &Path| {
+        let message = check(program, 19, 300, &BOTH[..1], 1).err().unwrap();
+        (left_file(&message, 19), message)
+    };
+    let (made, message) = wrong_statement(&itself(&directory, "preview"));
+    assert!(!made.refixed, "{message}");
+    assert!(
+        message.contains("line 1 is to be \"refused 17 at 0\\n\""),
+        "{message}"
+    );
+    // 17 told after 6, and before 15, where the file seems to have no 06 record of hour 0.
+    let other = |answer: &str| {
+        let text = format!(
+            "file=$(mktemp) && cat > $file && preview=$('{second}' preview < $file)
+             case $preview in {answer} ;; *) '{second}' statement < $file ;; esac
+             rm $file"
+        );
+        wrong_statement(&script(&directory, &text))
+    };
+    let (made, message) = other("'refused 6 at 0') echo $preview");
+    assert!(!made.refixed, "{}", made.name);
+    assert!(
+        message.ends_with("but was printed as \"refused 6 at 0\\n\""),
+        "{message}"
+    );
+    let (made, message) = other(
+        "'refused 15 at '*) if od -An -v -tx1 $file | tr -d ' \\n' | grep -q 060000; then echo $preview; else echo refused 17 at 0; fi",
+    );
+    assert!(!made.refixed, "{}", made.name);
+    assert!(
+        message.contains("line 1 is to be \"refused 15 at "),
+        "{message}"
+    );
+    fs::remove_dir_all(&directory).unwrap();
 }
 
 /// The file that a message says is left, which is this one; then removed with its directory.
@@ -338,9 +493,7 @@ fn check_finds_a_program_that_takes_the_first_piece_for_the_file() {
     assert!(check(&program, 11, 60, &BOTH[..1], 1).is_ok());
     let message = check(&program, 11, 60, BOTH, 2).err().unwrap();
     assert!(message.contains("in pieces"), "{message}");
-    let number = message.split("file ").nth(1).unwrap();
-    let number = number.split(' ').next().unwrap().parse().unwrap();
-    assert_left(&message, &file(11, number));
+    left_file(&message, 11);
     fs::remove_dir_all(directory).unwrap();
 }
 
@@ -419,19 +572,19 @@ fn the_check_command_fails_where_something_did_not_occur() {
 #[test]
 fn the_check_command_takes_the_report_by_name() {
     let directory = temporary("report");
-    let program = itself(&directory, "hours");
-    let hours = Command::new(env!("CARGO_BIN_EXE_second"))
-        .args(["check", "--seed", "18", "--count", "200", "--program"])
-        .arg(&program)
-        .args(["--threads", "2", "--report", "hours"])
-        .output()
-        .unwrap();
-    let text = String::from_utf8(hours.stdout).unwrap();
-    assert!(
-        text.contains("seed 18: 200 files, none differs (hours, both, "),
-        "{text}"
-    );
-    assert!(hours.status.success());
+    for report in ["hours", "preview"] {
+        let program = itself(&directory, report);
+        let checked = Command::new(env!("CARGO_BIN_EXE_second"))
+            .args(["check", "--seed", "18", "--count", "200", "--program"])
+            .arg(&program)
+            .args(["--threads", "2", "--report", report])
+            .output()
+            .unwrap();
+        let text = String::from_utf8(checked.stdout).unwrap();
+        let end = format!("seed 18: 200 files, none differs ({report}, both, ");
+        assert!(text.contains(&end), "{text}");
+        assert!(checked.status.success());
+    }
     fs::remove_dir_all(directory).unwrap();
 }
 

@@ -4,7 +4,7 @@
 
 mod common;
 
-use common::{assert_accepted, assert_refused};
+use common::{assert_accepted, assert_accepted_as_provisional, assert_refused};
 use second::draft::Draft;
 use second::examples::s1;
 use second::record::{Record, END, FIXED_HOUR};
@@ -169,12 +169,12 @@ fn a10_a_reading_among_the_hours_is_3() {
 }
 
 #[test]
-fn a11_half_a_refixed_series_is_3_and_none_is_accepted() {
+fn a11_half_a_refixed_series_is_3_and_none_is_read() {
     for refixed in 1..3 {
         let file = changed(|draft| draft.refixed.truncate(refixed));
         assert_refused(&file, 3, 7 + refixed);
     }
-    assert_accepted(&changed(|draft| draft.refixed.clear()));
+    assert_accepted_as_provisional(&changed(|draft| draft.refixed.clear()));
 }
 
 #[test]

@@ -1,16 +1,15 @@
-//! The stored examples are what `second example` makes and what statement and hours print for them; and the program itself.
+//! The stored examples are what `second example` makes and what each report's program prints for them; and the program
+//! itself.
 
 use std::fs::{self, File};
 use std::path::PathBuf;
 use std::process::{Command, Output, Stdio};
 
 use second::examples::{example, full, NAMES};
-use second::hours::hours;
 use second::month::settle;
+use second::report::Report;
+use second::setting::Setting;
 use second::statement::statement;
-
-/// The commands that print a report, and the endings of the files that store one.
-const REPORTS: [&str; 2] = ["statement", "hours"];
 
 fn stored(name: &str) -> PathBuf {
     let directory = PathBuf::from(env!("CARGO_MANIFEST_DIR")).join("../examples");
@@ -30,10 +29,10 @@ fn stored_examples_are_up_to_date() {
     for name in NAMES {
         let file = fs::read(stored(&format!("{name}.month"))).unwrap();
         assert_eq!(file, example(name).unwrap(), "{name}");
-        let text = fs::read_to_string(stored(&format!("{name}.statement"))).unwrap();
-        assert_eq!(text, statement(&file), "{name}");
-        let text = fs::read_to_string(stored(&format!("{name}.hours"))).unwrap();
-        assert_eq!(text, hours(&file), "{name}");
+        for report in Report::ALL {
+            let text = fs::read_to_string(stored(&format!("{name}.{}", report.word()))).unwrap();
+            assert_eq!(text, report.of(&file), "{name}");
+        }
     }
 }
 
@@ -45,7 +44,7 @@ fn the_silent_month_is_refused_at_its_hour() {
 #[test]
 fn the_full_month_is_a_full_month() {
     let bytes = full().bytes();
-    let month = settle(&bytes).unwrap();
+    let month = settle(&bytes, Setting::Final).unwrap();
     assert_eq!((month.hours.len(), month.file.parties.len()), (744, 40));
     assert!(month.file.readings.len() >= 300);
     assert!(!month.refixed_wh.is_empty() && month.refixed_wh != month.fixed_wh);
@@ -56,7 +55,7 @@ fn the_full_month_is_a_full_month() {
 #[test]
 fn the_program_prints_reports_and_examples() {
     for name in NAMES {
-        for report in REPORTS {
+        for report in Report::ALL.map(Report::word) {
             let input = File::open(stored(&format!("{name}.month"))).unwrap();
             let printed = second(&[report], input.into());
             let expected = fs::read(stored(&format!("{name}.{report}"))).unwrap();
@@ -66,7 +65,7 @@ fn the_program_prints_reports_and_examples() {
         let made = second(&["example", name], Stdio::null());
         assert_eq!(made.stdout, example(name).unwrap());
     }
-    for report in REPORTS {
+    for report in Report::ALL.map(Report::word) {
         let empty = second(&[report], Stdio::null());
         assert_eq!(empty.stdout, b"refused 1 at 0\n");
     }
@@ -75,7 +74,7 @@ fn the_program_prints_reports_and_examples() {
 /// A directory can be opened and not be read.
 #[test]
 fn a_read_error_prints_nothing_and_fails() {
-    for report in REPORTS {
+    for report in Report::ALL.map(Report::word) {
         let directory = File::open(stored("")).unwrap();
         let printed = second(&[report], directory.into());
         assert_eq!(printed.stdout, b"");

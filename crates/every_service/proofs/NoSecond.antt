@@ -90,14 +90,14 @@ unfolding OneFits OneFitsWith
 whole-files =
     record {
       month-file-read = read-unique;
-      month-settle = λ file lent r s held held′ p q. settle-unique lent held held′ p q;
+      month-settle = λ setting file lent r s held held′ p q. settle-unique lent held held′ p q;
       month-run-hours =
-          λ file start hours lent r s held held′ p q.
-          let e = hours-unique file start hours p q in
+          λ setting file start hours lent r s held held′ p q.
+          let e = hours-unique setting file start hours p q in
           (e .0, λ i. record { distributed = e .1 i; periodised = e .2 i; differences = e .3 i; losses = e .4 i });
-      statement = λ file lent r s held held′ p q. statement-unique p q;
+      statement = λ setting file lent r s held held′ p q. statement-unique p q;
       hours-report =
-          λ file lent r s held held′ p q.
+          λ setting file lent r s held held′ p q.
           let e = report-unique p q in
           (e .0, λ i. record { first = e .1 .0 i; rest = e .1 .1 .0 i; parties = e .1 .1 .1 i });
     }
@@ -110,6 +110,7 @@ answers =
       each-at-most = λ values most otherwise a b p q. said-once a b (p ∙ sym q);
       within = λ figure lowest greatest. one-value _;
       each-within = λ figures lowest greatest otherwise a b p q. said-once a b (p ∙ sym q);
+      refixed-or-provisional = λ setting refixed a b p q. said-once a b (p ∙ sym q);
     }
 
 pub no-second-result : NoSecondResult

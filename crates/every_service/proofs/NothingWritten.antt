@@ -73,7 +73,7 @@ nothing-written =
       write = λ r gln lent. wrote-nothing _ lent _;
       write-plain = λ kind numbers gln lent. wrote-nothing _ lent _;
       month-settle =
-          λ file lent r held refuses p i.
+          λ setting file lent r held refuses p i.
           record {
             distributed = left _ _ _ refuses (p .distributed) i;
             periodised = left _ _ _ refuses (p .periodised) i;
@@ -82,16 +82,16 @@ nothing-written =
             amounts = left _ _ _ refuses (p .amounts) i;
           };
       month-run-hours =
-          λ file start hours lent r held refuses p i.
+          λ setting file start hours lent r held refuses p i.
           record {
             distributed = left _ _ _ refuses (p .distributed) i;
             periodised = left _ _ _ refuses (p .periodised) i;
             differences = left _ _ _ refuses (p .differences) i;
             losses = left _ _ _ refuses (p .losses) i;
           };
-      statement = λ file lent r held refuses p. left _ _ _ refuses (p .contents);
+      statement = λ setting file lent r held refuses p. left _ _ _ refuses (p .contents);
       hours-report =
-          λ file lent r held refuses p i.
+          λ setting file lent r held refuses p i.
           record {
             first = left _ _ _ refuses (p .first-hours) i;
             rest = left _ _ _ refuses (p .other-hours) i;

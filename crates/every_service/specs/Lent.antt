@@ -8,6 +8,7 @@ use Rattle.reconcile_service.specs.Told as Hour
 use Rattle.reconcile_service.specs.declared.Reconciled.{Reconciled}
 use Rattle.report_text.specs.Reporting as Report
 use Rattle.report_text.specs.declared.Reported.{Reported}
+use Rattle.setting.specs.declared.Setting.{Setting}
 use Rattle.settle_c.specs.Promised as C
 
 -- the two lists of one hour's reconciliation
@@ -37,9 +38,9 @@ pub record RunOutputs : Type 0 where
   pub differences : List ℤ
   pub losses : List ℤ
 
-abbrev pub RunPromised : List ℕ → ℕ → ℕ → RunOutputs → Answer → RunOutputs → Type 0
-RunPromised file start hours lent r held =
-    Run.Promised file start hours r (lent .distributed) (lent .periodised) (lent .differences) (lent .losses)
+abbrev pub RunPromised : Setting → List ℕ → ℕ → ℕ → RunOutputs → Answer → RunOutputs → Type 0
+RunPromised setting file start hours lent r held =
+    Run.Promised setting file start hours r (lent .distributed) (lent .periodised) (lent .differences) (lent .losses)
     (held .distributed) (held .periodised) (held .differences) (held .losses)
 
 -- the buffers of the report: the first hours, the other hours, the parties
@@ -48,6 +49,6 @@ pub record ReportBuffers : Type 0 where
   pub rest : List ℕ
   pub parties : List ℕ
 
-abbrev pub ReportPromised : List ℕ → ReportBuffers → Reported → ReportBuffers → Type 0
-ReportPromised file lent r held =
-    Report.Promised file (lent .first) (lent .rest) (lent .parties) r (held .first) (held .rest) (held .parties)
+abbrev pub ReportPromised : Setting → List ℕ → ReportBuffers → Reported → ReportBuffers → Type 0
+ReportPromised setting file lent r held =
+    Report.Promised setting file (lent .first) (lent .rest) (lent .parties) r (held .first) (held .rest) (held .parties)

@@ -22,6 +22,8 @@ use Rattle.record_service.specs.Plain as Plain
 use Rattle.record_write.specs.Writing as Write
 use Rattle.residual.specs.Promised as OneHour
 use Rattle.residual_service.specs.Promised as Residual
+use Rattle.setting.specs.Asked as Asked
+use Rattle.setting.specs.declared.Setting.{Setting}
 use Rattle.settle_c.specs.Promised as C
 use Rattle.statement_text.specs.Stating as Statement
 use lib.ListN.{length}
@@ -75,15 +77,17 @@ pub record Records : Type 0 where
       (kind : ℕ) (numbers : List ℤ) (gln lent : List ℕ)
       → OneFitsWith (Plain.Promised kind numbers gln lent)
 
--- A WHOLE FILE: its reading, its settlement, the hours of a run, its two texts
+-- A WHOLE FILE under a setting: its reading, its settlement, the hours of a run, its two texts
 pub record WholeFiles : Type 0 where
-  pub month-file-read : (file : List ℕ) → OneFits (File.Promised file)
-  pub month-settle : (file : List ℕ) (lent : Month.Outputs) → OneFitsWith (λ r. Month.Kept file r lent)
-  pub month-run-hours : (file : List ℕ) (start hours : ℕ) (lent : RunOutputs) → OneFitsWith (RunPromised file start hours lent)
-  pub statement : (file lent : List ℕ) → OneFitsWith (Statement.Promised file lent)
-  pub hours-report : (file : List ℕ) (lent : ReportBuffers) → OneFitsWith (ReportPromised file lent)
+  pub month-file-read : (setting : Setting) (file : List ℕ) → OneFits (File.Promised setting file)
+  pub month-settle : (setting : Setting) (file : List ℕ) (lent : Month.Outputs) → OneFitsWith (λ r. Month.Kept setting file r lent)
+  pub month-run-hours :
+      (setting : Setting) (file : List ℕ) (start hours : ℕ) (lent : RunOutputs)
+      → OneFitsWith (RunPromised setting file start hours lent)
+  pub statement : (setting : Setting) (file lent : List ℕ) → OneFitsWith (Statement.Promised setting file lent)
+  pub hours-report : (setting : Setting) (file : List ℕ) (lent : ReportBuffers) → OneFitsWith (ReportPromised setting file lent)
 
--- AND THE ANSWERS THEMSELVES
+-- AND THE ANSWERS THEMSELVES, 17 by the setting among them
 pub record Answers : Type 0 where
   pub number : (r : Refusal) → OneFits (Answer.NumberPromised r)
   pub each-at-most : (values : List ℕ) (most : ℕ) (otherwise : Refusal) → OneFits (Answer.EachAtMostPromised values most otherwise)
@@ -91,6 +95,7 @@ pub record Answers : Type 0 where
   pub each-within :
       (figures : List ℤ) (lowest greatest : ℤ) (otherwise : Refusal)
       → OneFits (Answer.EachWithinPromised figures lowest greatest otherwise)
+  pub refixed-or-provisional : (setting : Setting) (refixed : ℕ) → OneFits (Asked.Promised setting refixed)
 
 -- NO SECOND RESULT FITS
 pub record NoSecondResult : Type 0 where

@@ -20,6 +20,7 @@ use Rattle.record_write.specs.declared.Written.{Written}
 use Rattle.report_text.specs.Reporting as Report
 use Rattle.residual_service.specs.Promised as Residual
 use Rattle.rules.specs.Refusals.{Refusal, Verdict, refused, verdictTold}
+use Rattle.setting.specs.declared.Setting.{Setting}
 use Rattle.settle_c.specs.Promised as C
 use Rattle.statement_text.specs.Stating as Statement
 
@@ -70,8 +71,14 @@ pub record NothingWritten : Type 0 where
   pub write-plain :
       (kind : ℕ) (numbers : List ℤ) (gln lent : List ℕ)
       → Unwritten (Refuses wroteVerdict) lent (Plain.Promised kind numbers gln lent)
-  pub month-settle : (file : List ℕ) (lent : Month.Outputs) → Unwritten (Refuses Month′.verdict) lent (λ r. Month.Kept file r lent)
+  pub month-settle :
+      (setting : Setting) (file : List ℕ) (lent : Month.Outputs)
+      → Unwritten (Refuses Month′.verdict) lent (λ r. Month.Kept setting file r lent)
   pub month-run-hours :
-      (file : List ℕ) (start hours : ℕ) (lent : RunOutputs) → Unwritten (Refuses said) lent (RunPromised file start hours lent)
-  pub statement : (file lent : List ℕ) → Unwritten (Refuses Statement.verdict) lent (Statement.Promised file lent)
-  pub hours-report : (file : List ℕ) (lent : ReportBuffers) → Unwritten (Refuses Report.verdict) lent (ReportPromised file lent)
+      (setting : Setting) (file : List ℕ) (start hours : ℕ) (lent : RunOutputs)
+      → Unwritten (Refuses said) lent (RunPromised setting file start hours lent)
+  pub statement :
+      (setting : Setting) (file lent : List ℕ) → Unwritten (Refuses Statement.verdict) lent (Statement.Promised setting file lent)
+  pub hours-report :
+      (setting : Setting) (file : List ℕ) (lent : ReportBuffers)
+      → Unwritten (Refuses Report.verdict) lent (ReportPromised setting file lent)

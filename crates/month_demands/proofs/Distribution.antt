@@ -16,6 +16,9 @@ use Rattle.month_run.specs.InRun.{distributedInRun}
 use Rattle.month_run.specs.Run.{inMonth, askedVerdict, runVerdict, Promised}
 use Rattle.month_run.proofs.OneHour.{in-run}
 use Rattle.month_run.proofs.Verdicts.{run-inside}
+use Rattle.file_sections.proofs.AcceptedFile.{month-of}
+use Rattle.setting.specs.Asked.{asked}
+use Rattle.setting.specs.declared.Setting.{Setting}
 use Rattle.rules.specs.Demands.{sumOver, sumSinceFirst, exactShare, distance, Demand3}
 use Rattle.rules.specs.Distributed.{distributedFigure}
 use Rattle.rules.specs.Flows.{W, residual, residualWh}
@@ -24,12 +27,15 @@ use Rattle.rules.specs.Month.{monthRead, monthOf, shareOf, monthW, appliedFlows
 use Rattle.rules.specs.MonthFile.{MonthFile, H, P, readMonth}
 use Rattle.rules.specs.Refusals.{outOfRange, Verdict, accepted, Answer as Told, given, refusal, unless, afterwards}
 use Rattle.rules.specs.Services.{atℤ}
+use Rattle.rules.specs.Setting.{provisional}
+use Rattle.rules.specs.Setting as R
 use Rattle.rules.specs.Words.{sum, sumℤ, figures}
 use Rattle.rules.proofs.Demand3.{demand-3}
 use Rattle.rules.proofs.Integers.{sumℤ-cong}
 use Rattle.rules.proofs.Loops.{figures-length, figures-at}
 use Rattle.rules.proofs.Month.{Judged, accepted-is-judged, W-in-range, every-hour-has-its-figure}
 use Rattle.rules.proofs.Refusals.{refused-not-accepted, both-accept, unless-exactly}
+use Rattle.rules.proofs.Setting.{read-alike}
 use Rattle.rules.proofs.Whole.{what-is-read-is-whole}
 
 -- a number that is not negative is its size
@@ -38,17 +44,17 @@ its-size (pos n) h = refl
 its-size (negsuc n) h = absurd (h .le)
 
 -- DEMAND 3 OF EVERY FILE that has what it asks
-module _ {file : List ℕ} {m : MonthFile} (asked : DistributionAsked file m) where
+module _ {file : List ℕ} {m : MonthFile} (has : DistributionAsked file m) where
   some-share : 0 < W (P m) (shareOf m)
   unfolding monthW
-  some-share = asked .shares-accepted .0
+  some-share = has .shares-accepted .0
 
   demand : Demand3 (P m) (shareOf m) (appliedWh m)
   demand = demand-3 (P m) (shareOf m) some-share (appliedWh m)
 
   in-wh : (t : ℕ) → t < H m → residual (appliedFlows m t) ≡ pos (appliedWh m t)
   unfolding appliedWh residualWh
-  in-wh t b = its-size (residual (appliedFlows m t)) (asked .applied-within-limits t b .0)
+  in-wh t b = its-size (residual (appliedFlows m t)) (has .applied-within-limits t b .0)
 
   adds-up : (t : ℕ) → t < H m → sumℤ (P m) (distributed m t) ≡ residual (appliedFlows m t)
   unfolding distributed
@@ -91,7 +97,7 @@ module _ {file : List ℕ} {m : MonthFile} (asked : DistributionAsked file m) wh
     unfolding monthW
     the-run-meets some size =
         record {
-          asked = asked;
+          asked = has;
           some = some;
           inside = inside;
           size = size;
@@ -106,7 +112,7 @@ in-limits : (n : ℕ) {z : ℤ} → z ≡ pos n → n ≤ greatestResidual → (
 in-limits n e b = rw e (record { le = le→leb 0 n (omega arith) }, record { le = le→leb n greatestResidual b })
 
 -- an accepted month has what demand 3 asks
-pub judged-is-asked : {file : List ℕ} {m : MonthFile} → readMonth file ≡ given m → Judged m → DistributionAsked file m
+pub judged-is-asked : {file : List ℕ} {m : MonthFile} → readMonth provisional file ≡ given m → Judged m → DistributionAsked file m
 judged-is-asked {file} {m} is judged =
     record {
       read = is;
@@ -115,24 +121,27 @@ judged-is-asked {file} {m} is judged =
     }
 
 -- of a file that is accepted as a whole: what it is read as
-read-accepted : (a : Told MonthFile) → verdictOn a ≡ accepted → (a ≡ given (monthRead a)) × (monthVerdict (monthRead a) ≡ accepted)
+read-accepted : (setting : R.Setting) (a : Told MonthFile) → verdictOn setting a ≡ accepted → (a ≡ given (monthRead a)) × (monthVerdict setting (monthRead a) ≡ accepted)
 unfolding verdictOn monthRead
-read-accepted (given m) e = (refl, e)
-read-accepted (refusal r place) e = absurd (refused-not-accepted e)
+read-accepted setting (given m) e = (refl, e)
+read-accepted setting (refusal r place) e = absurd (refused-not-accepted e)
 
 -- THE CALL ON A RUN OF HOURS: of any answer r, and any contents of the lent outputs, that meet its promise
-module _ {file : List ℕ} {start hours : ℕ} {r : Answer} {d₀ : List ℤ} {p₀ : List ℕ} {x₀ l₀ d : List ℤ} {p : List ℕ} {x l : List ℤ}
-    (is : Promised file start hours r d₀ p₀ x₀ l₀ d p x l) (ok : said r ≡ accepted) where
+module _ {setting : Setting} {file : List ℕ} {start hours : ℕ} {r : Answer} {d₀ : List ℤ} {p₀ : List ℕ} {x₀ l₀ d : List ℤ} {p : List ℕ} {x l : List ℤ}
+    (is : Promised setting file start hours r d₀ p₀ x₀ l₀ d p x l) (ok : said r ≡ accepted) where
   abbrev m : MonthFile
   m = monthOf file
 
-  both : (fileVerdict file ≡ accepted) × (askedVerdict (H m) (P m) start hours (length d₀) (length p₀) (length x₀) (length l₀) ≡ accepted)
+  both : (fileVerdict (asked setting) file ≡ accepted) × (askedVerdict (H m) (P m) start hours (length d₀) (length p₀) (length x₀) (length l₀) ≡ accepted)
   unfolding runVerdict
-  both = both-accept (fileVerdict file) _ (sym (is .answer) ∙ ok)
+  both = both-accept (fileVerdict (asked setting) file) _ (sym (is .answer) ∙ ok)
 
-  month : (readMonth file ≡ given m) × (monthVerdict m ≡ accepted)
-  unfolding fileVerdict monthOf
-  month = read-accepted (readMonth file) (both .0)
+  month : (readMonth provisional file ≡ given m) × (monthVerdict (asked setting) m ≡ accepted)
+  unfolding fileVerdict
+  month =
+      let read = read-accepted (asked setting) (readMonth (asked setting) file) (both .0) in
+      let same : m ≡ monthRead (readMonth (asked setting) file) = month-of (asked setting) file (read .0) in
+      (read-alike provisional (asked setting) file ∙ read .0 ∙ ap given (sym same), ap (monthVerdict (asked setting)) same ∙ read .1)
 
   run-in-month : (1 ≤ hours) × (start + hours ≤ H m)
   unfolding askedVerdict
@@ -154,5 +163,5 @@ module _ {file : List ℕ} {start hours : ℕ} {r : Answer} {d₀ : List ℤ} {p
   -- DEMAND 3 OF WHAT A CALLER GETS HOUR BY HOUR
   pub the-hours-meet : RunMeets file (monthOf file) start hours d
   the-hours-meet =
-      the-run-meets (judged-is-asked (month .0) (accepted-is-judged m (what-is-read-is-whole file (month .0)) (month .1)))
+      the-run-meets (judged-is-asked (month .0) (accepted-is-judged (asked setting) m (what-is-read-is-whole provisional file (month .0)) (month .1)))
       start hours (run-in-month .1) d as-written (run-in-month .0) (ap length holds ∙ figures-length (hours * P m) (distributedInRun m start))

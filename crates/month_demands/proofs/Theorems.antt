@@ -1,10 +1,11 @@
 -- The demands (00) of the call on a whole file, proved from its promise alone: so they hold of whatever answer and contents fit the promise.
 use mathlib.Core.Bool.{Bool, true, false}
 use mathlib.Core.List.{List}
-use mathlib.Core.Logic.{_↔_}
+use mathlib.Core.Logic.{_↔_, ⊎-elim}
 use mathlib.Core.Path.{_≡_, refl, sym, _∙_, ap, ap₂}
-use Prim.Native.Nat.{ℕ, _<_}
+use Prim.Native.Nat.{ℕ, _≤_, _<_}
 use native.Mathlib.Nat.{zero-add}
+use native.Mathlib.Omega.{arith}
 use lib.IntN.{ℤ, pos}
 use lib.ListN.{length}
 use Rattle.month_demands.specs.Demands.{Outputs, Kept, placesRight, FileOf, NoRefusalApplies, RefusalApplies, of-reading, of-the-month, of-the-lent, MonthMeets}
@@ -13,6 +14,8 @@ use Rattle.month_sums.specs.declared.Settlement.{Settlement}
 use Rattle.month_sums.specs.declared.Settlement.the-variants.{Settled, Refused}
 use Rattle.month_sums.specs.declared.Summary.{Summary}
 use Rattle.file_sections.proofs.AcceptedFile.{month-of}
+use Rattle.setting.specs.Asked.{asked}
+use Rattle.setting.specs.declared.Setting.{Setting}
 use Rattle.rules.specs.Accepted.{NoneRefuses}
 use Rattle.rules.specs.Demands.{sumOver, sumSinceFirst}
 use Rattle.rules.specs.Distributed.{distributedFigure}
@@ -21,6 +24,8 @@ use Rattle.rules.specs.MonthFile.{MonthFile, H, P, readMonth}
 use Rattle.rules.specs.Reconciliation.{lossOf}
 use Rattle.rules.specs.Refusals.{Refusal, wrongLength, Verdict, accepted, refused, Answer, given, refusal, unless, andThen, first, answer, afterwards, verdictTold}
 use Rattle.rules.specs.Services.{atℤ}
+use Rattle.rules.specs.Setting.{final, provisional}
+use Rattle.rules.specs.Setting as R
 use Rattle.rules.specs.WellFormed.{Bytes}
 use Rattle.rules.specs.Words.{sum, sumℤ, at, figures}
 use Rattle.rules.proofs.Integers.{sumℤ-cong, sumℤ-swap}
@@ -30,9 +35,10 @@ use Rattle.rules.proofs.Month.{Judged, accepted-is-judged, heading-right, W-in-
 use Rattle.rules.proofs.ReadingRefused.{reading-refused-exactly}
 use Rattle.rules.proofs.Reconciliation.{one-carries-the-loss}
 use Rattle.rules.proofs.Refusals.{refused-not-accepted, accepted-exactly, refused-exactly, both-accept, unless-exactly, verdict-back}
+use Rattle.rules.proofs.Setting.{read-alike, final-is-refixed}
 use Rattle.rules.proofs.Sums.{sum-cong, sum-swap}
 use Rattle.rules.proofs.WellFormed.{read-exactly}
-use Rattle.rules.proofs.Whole.{what-is-read-is-whole}
+use Rattle.rules.proofs.Whole.{Whole, what-is-read-is-whole}
 
 -- The verdict can be read back from what an answer tells.
 as-told : (r : Settlement) → verdictTold (told r) ≡ verdict r
@@ -40,7 +46,7 @@ as-told (Settled s) = refl
 as-told (Refused r place) = refl
 
 -- THE EXACT CONDITIONS of the call's verdict: of what the file is read as, and of the lent outputs.
-module _ (file : List ℕ) (lent : Outputs) where
+module _ (setting : Setting) (file : List ℕ) (lent : Outputs) where
   abbrev right : MonthFile → Bool
   right m = placesRight (P m) lent
 
@@ -48,46 +54,48 @@ module _ (file : List ℕ) (lent : Outputs) where
   last m = unless (right m) wrongLength 0
 
   abbrev verdictFor : Answer MonthFile → Verdict
-  verdictFor read = andThen (verdictOn read) (last (monthRead read))
+  verdictFor read = andThen (verdictOn (asked setting) read) (last (monthRead read))
 
   the-call :
-      settleVerdict file (length (lent .distributed)) (length (lent .periodised)) (length (lent .losses)) (length (lent .differences)) (length (lent .amounts))
-      ≡ verdictFor (readMonth file)
+      settleVerdict setting file (length (lent .distributed)) (length (lent .periodised)) (length (lent .losses)) (length (lent .differences)) (length (lent .amounts))
+      ≡ verdictFor (readMonth (asked setting) file)
   unfolding settleVerdict callVerdict fileVerdict monthOf
-  the-call = refl
+  the-call =
+      ap (λ (read : Answer MonthFile). andThen (verdictOn (asked setting) (readMonth (asked setting) file)) (last (monthRead read)))
+      (read-alike provisional (asked setting) file)
 
   -- what an accepted call says of the file, whatever its members
   record ReadAndRight : Type 0 where
     month : MonthFile
-    read : readMonth file ≡ given month
-    no-check-refuses : NoneRefuses (monthChecks month)
+    read : readMonth (asked setting) file ≡ given month
+    no-check-refuses : NoneRefuses (monthChecks (asked setting) month)
     lent-right : right month ≡ true
 
-  read-and-right : (read : Answer MonthFile) → readMonth file ≡ read → verdictFor read ≡ accepted → ReadAndRight
+  read-and-right : (read : Answer MonthFile) → readMonth (asked setting) file ≡ read → verdictFor read ≡ accepted → ReadAndRight
   unfolding verdictOn monthVerdict monthRead andThen
   read-and-right (given m) is e =
-      let both = both-accept (first (monthChecks m)) (last m) e in
-      record { month = m; read = is; no-check-refuses = accepted-exactly (monthChecks m) .0 (both .0); lent-right = unless-exactly _ _ _ .0 (both .1) }
+      let both = both-accept (first (monthChecks (asked setting) m)) (last m) e in
+      record { month = m; read = is; no-check-refuses = accepted-exactly (monthChecks (asked setting) m) .0 (both .0); lent-right = unless-exactly _ _ _ .0 (both .1) }
   read-and-right (refusal r place) is e = absurd (refused-not-accepted e)
 
   -- A file of bytes is read as a month exactly when it is the file of that month, well formed.
   module _ (small : Bytes file) where
-    its-file : (m : MonthFile) → readMonth file ≡ given m → FileOf file m
-    its-file m is = let h = read-exactly file m small .0 is in record { well-formed = h .0; its-bytes = h .1 }
+    its-file : (m : MonthFile) → readMonth (asked setting) file ≡ given m → FileOf file m
+    its-file m is = let h = read-exactly (asked setting) file m small .0 is in record { well-formed = h .0; its-bytes = h .1 }
 
-    is-read : {m : MonthFile} → FileOf file m → readMonth file ≡ given m
-    is-read {m} h = read-exactly file m small .1 (h .well-formed, h .its-bytes)
+    is-read : {m : MonthFile} → FileOf file m → readMonth (asked setting) file ≡ given m
+    is-read {m} h = read-exactly (asked setting) file m small .1 (h .well-formed, h .its-bytes)
 
     -- accepted, then no refusal applies
-    none-applies : ReadAndRight → NoRefusalApplies file lent
+    none-applies : ReadAndRight → NoRefusalApplies setting file lent
     none-applies h = record { month = h .month; is-its-file = its-file (h .month) (h .read); no-check-refuses = h .no-check-refuses; lent-right = h .lent-right }
 
     -- and the other way
-    then-accepts : NoRefusalApplies file lent → verdictFor (readMonth file) ≡ accepted
+    then-accepts : NoRefusalApplies setting file lent → verdictFor (readMonth (asked setting) file) ≡ accepted
     unfolding verdictOn monthVerdict monthRead andThen
     then-accepts h =
         ap verdictFor (is-read (h .is-its-file))
-        ∙ ap₂ (λ (u v : Verdict). andThen u v) (accepted-exactly (monthChecks (h .month)) .1 (h .no-check-refuses))
+        ∙ ap₂ (λ (u v : Verdict). andThen u v) (accepted-exactly (monthChecks (asked setting) (h .month)) .1 (h .no-check-refuses))
         (unless-exactly (right (h .month)) wrongLength 0 .1 (h .lent-right))
 
     module _ (r : Refusal) (place : ℕ) where
@@ -95,10 +103,10 @@ module _ (file : List ℕ) (lent : Outputs) where
       by-the-lent :
           (m : MonthFile)
           → FileOf file m
-          → NoneRefuses (monthChecks m) → (b : Bool)
+          → NoneRefuses (monthChecks (asked setting) m) → (b : Bool)
           → right m ≡ b
           → unless b wrongLength 0 ≡ refused r place
-          → RefusalApplies file lent r place
+          → RefusalApplies setting file lent r place
       unfolding unless
       by-the-lent m is none true w e = absurd (refused-not-accepted (sym e))
       by-the-lent m is none false w e =
@@ -106,29 +114,29 @@ module _ (file : List ℕ) (lent : Outputs) where
           let at-the-start : place ≡ 0 = cc in
           of-the-lent (record { month = m; is-its-file = is; no-check-refuses = none; lent-wrong = w; is-16 = same; at-0 = at-the-start })
 
-      by-the-month : (m : MonthFile) → FileOf file m → (v : Verdict) → first (monthChecks m) ≡ v → andThen v (last m) ≡ refused r place → RefusalApplies file lent r place
+      by-the-month : (m : MonthFile) → FileOf file m → (v : Verdict) → first (monthChecks (asked setting) m) ≡ v → andThen v (last m) ≡ refused r place → RefusalApplies setting file lent r place
       unfolding andThen
-      by-the-month m is accepted f e = by-the-lent m is (accepted-exactly (monthChecks m) .0 f) (right m) refl e
+      by-the-month m is accepted f e = by-the-lent m is (accepted-exactly (monthChecks (asked setting) m) .0 f) (right m) refl e
       by-the-month m is (refused s q) f e =
-          of-the-month (record { month = m; is-its-file = is; first-refuses = refused-exactly (monthChecks m) r place .0 (f ∙ e) })
+          of-the-month (record { month = m; is-its-file = is; first-refuses = refused-exactly (monthChecks (asked setting) m) r place .0 (f ∙ e) })
 
-      it-applies : (read : Answer MonthFile) → readMonth file ≡ read → verdictFor read ≡ refused r place → RefusalApplies file lent r place
+      it-applies : (read : Answer MonthFile) → readMonth (asked setting) file ≡ read → verdictFor read ≡ refused r place → RefusalApplies setting file lent r place
       unfolding verdictOn monthVerdict monthRead andThen
-      it-applies (given m) is e = by-the-month m (its-file m is) (first (monthChecks m)) refl e
+      it-applies (given m) is e = by-the-month m (its-file m is) (first (monthChecks (asked setting) m)) refl e
       it-applies (refusal s q) is e =
           let same : _≡_ {A = Answer MonthFile} (refusal s q) (refusal r place) = cc in
-          of-reading (reading-refused-exactly file r place small .0 (is ∙ same))
+          of-reading (reading-refused-exactly (asked setting) file r place small .0 (is ∙ same))
 
       -- and the other way
-      then-refuses : RefusalApplies file lent r place → verdictFor (readMonth file) ≡ refused r place
+      then-refuses : RefusalApplies setting file lent r place → verdictFor (readMonth (asked setting) file) ≡ refused r place
       unfolding verdictOn monthVerdict monthRead andThen unless
-      then-refuses (of-reading h) = ap verdictFor (reading-refused-exactly file r place small .1 h)
+      then-refuses (of-reading h) = ap verdictFor (reading-refused-exactly (asked setting) file r place small .1 h)
       then-refuses (of-the-month h) =
           ap verdictFor (is-read (h .is-its-file))
-          ∙ ap (λ (u : Verdict). andThen u (last (h .month))) (refused-exactly (monthChecks (h .month)) r place .1 (h .first-refuses))
+          ∙ ap (λ (u : Verdict). andThen u (last (h .month))) (refused-exactly (monthChecks (asked setting) (h .month)) r place .1 (h .first-refuses))
       then-refuses (of-the-lent h) =
           ap verdictFor (is-read (h .is-its-file))
-          ∙ ap₂ (λ (u : Verdict) (b : Bool). andThen u (unless b wrongLength 0)) (accepted-exactly (monthChecks (h .month)) .1 (h .no-check-refuses)) (h .lent-wrong)
+          ∙ ap₂ (λ (u : Verdict) (b : Bool). andThen u (unless b wrongLength 0)) (accepted-exactly (monthChecks (asked setting) (h .month)) .1 (h .no-check-refuses)) (h .lent-wrong)
           ∙ ap₂ refused (sym (h .is-16)) (sym (h .at-0))
 
 -- A list that holds the figures of a column: each figure, and their sum.
@@ -171,45 +179,54 @@ since-first m i =
     sumℤ-cong (H m) (λ t b. ap (λ (k : ℕ). distributedFigure (P m) (shareOf m) (appliedWh m) k i) (sym (zero-add t)))
 
 -- THE CALL ON A WHOLE FILE: of any answer r, and any contents of the lent outputs, that meet its promise.
-module _ {file : List ℕ} {r : Settlement} (lent held : Outputs) (is : Kept file r lent held) where
-  its-verdict : verdict r ≡ verdictFor file lent (readMonth file)
+module _ {setting : Setting} {file : List ℕ} {r : Settlement} (lent held : Outputs) (is : Kept setting file r lent held) where
+  its-verdict : verdict r ≡ verdictFor setting file lent (readMonth (asked setting) file)
   its-verdict =
       sym (as-told r) ∙ ap (λ (a : Answer Summary). verdictTold a) (is .answer) ∙ verdict-back _ (summaryOf (monthOf file))
-      ∙ the-call file lent
+      ∙ the-call setting file lent
 
   -- "A month is accepted exactly when no refusal there applies." A slice of bytes has members below 256, which is all that is asked.
-  pub accepted-exactly-when : Bytes file → (verdict r ≡ accepted) ↔ NoRefusalApplies file lent
+  pub accepted-exactly-when : Bytes file → (verdict r ≡ accepted) ↔ NoRefusalApplies setting file lent
   accepted-exactly-when small = (
-    λ e. none-applies file lent small (read-and-right file lent (readMonth file) refl (sym its-verdict ∙ e)),
-    λ h. its-verdict ∙ then-accepts file lent small h,
+    λ e. none-applies setting file lent small (read-and-right setting file lent (readMonth (asked setting) file) refl (sym its-verdict ∙ e)),
+    λ h. its-verdict ∙ then-accepts setting file lent small h,
   )
 
   -- "A refusal returns its number and a place": exactly when it is the one that applies
-  pub refused-exactly-when : Bytes file → (why : Refusal) (place : ℕ) → (verdict r ≡ refused why place) ↔ RefusalApplies file lent why place
+  pub refused-exactly-when : Bytes file → (why : Refusal) (place : ℕ) → (verdict r ≡ refused why place) ↔ RefusalApplies setting file lent why place
   refused-exactly-when small why place = (
-    λ e. it-applies file lent small why place (readMonth file) refl (sym its-verdict ∙ e),
-    λ h. its-verdict ∙ then-refuses file lent small why place h,
+    λ e. it-applies setting file lent small why place (readMonth (asked setting) file) refl (sym its-verdict ∙ e),
+    λ h. its-verdict ∙ then-refuses setting file lent small why place h,
   )
 
   module _ (ok : verdict r ≡ accepted) where
     abbrev m : MonthFile
     m = monthOf file
 
-    none : ReadAndRight file lent
-    none = read-and-right file lent (readMonth file) refl (sym its-verdict ∙ ok)
+    none : ReadAndRight setting file lent
+    none = read-and-right setting file lent (readMonth (asked setting) file) refl (sym its-verdict ∙ ok)
 
     its-month : m ≡ none .month
-    its-month = month-of file (none .read)
+    its-month = month-of (asked setting) file (none .read)
 
-    read-as : readMonth file ≡ given m
+    read-as : readMonth (asked setting) file ≡ given m
     read-as = none .read ∙ ap given (sym its-month)
 
-    its-checks : monthVerdict m ≡ accepted
+    its-checks : monthVerdict (asked setting) m ≡ accepted
     unfolding monthVerdict
-    its-checks = ap monthVerdict its-month ∙ accepted-exactly (monthChecks (none .month)) .1 (none .no-check-refuses)
+    its-checks = ap (monthVerdict (asked setting)) its-month ∙ accepted-exactly (monthChecks (asked setting) (none .month)) .1 (none .no-check-refuses)
+
+    whole : Whole m
+    whole = what-is-read-is-whole (asked setting) file read-as
 
     judged : Judged m
-    judged = accepted-is-judged m (what-is-read-is-whole file read-as) its-checks
+    judged = accepted-is-judged (asked setting) m whole its-checks
+
+    -- a final run refuses a month without 06 records, and one that has them has one for each hour
+    refixed : asked setting ≡ final → length (m .refixed) ≡ H m
+    refixed is-final =
+        let some : 1 ≤ length (m .refixed) = final-is-refixed m (ap (λ (s : R.Setting). monthVerdict s m) (sym is-final) ∙ its-checks) in
+        ⊎-elim (λ (z : length (m .refixed) ≡ 0). absurd (omega arith)) (λ (all : length (m .refixed) ≡ H m). all) (whole .none-or-all-refixed)
 
     holds-distributed : held .distributed ≡ figures (P m) (monthDistributed m)
     holds-distributed = now-held (lent .distributed) ok (is .distributed)
@@ -227,11 +244,12 @@ module _ {file : List ℕ} {r : Settlement} (lent held : Outputs) (is : Kept fil
     holds-amounts = now-held (lent .amounts) ok (is .amounts)
 
     -- DEMAND 3 AND THE SUMS OF EVERY ACCEPTED FILE
-    pub the-month-meets : MonthMeets file (monthOf file) held
+    pub the-month-meets : MonthMeets setting file (monthOf file) held
     unfolding appliedWh monthDistributed monthPeriodised monthLoss monthDifference monthAmount
     the-month-meets =
         record {
           read = read-as;
+          refixed-or-provisional = refixed;
           distributed-size = as-many (P m) (monthDistributed m) holds-distributed;
           periodised-size = as-many (P m) (monthPeriodised m) holds-periodised;
           losses-size = as-many (P m) (monthLoss m) holds-losses;
@@ -244,7 +262,7 @@ module _ {file : List ℕ} {r : Settlement} (lent held : Outputs) (is : Kept fil
           distributed-since-first = λ i b. signed-at (P m) (monthDistributed m) holds-distributed i b ∙ since-first m i;
           distributed-sums = signed-at (P m) (monthDistributed m) holds-distributed;
           periodised-sums = unsigned-at (P m) (monthPeriodised m) holds-periodised;
-          periodised-of-readings = λ i b. unsigned-at (P m) (monthPeriodised m) holds-periodised i b ∙ accepted-month-of-readings m (what-is-read-is-whole file read-as) its-checks i;
+          periodised-of-readings = λ i b. unsigned-at (P m) (monthPeriodised m) holds-periodised i b ∙ accepted-month-of-readings (asked setting) m whole its-checks i;
           loss-sums = signed-at (P m) (monthLoss m) holds-losses;
           difference-sums = signed-at (P m) (monthDifference m) holds-differences;
           amount-sums = signed-at (P m) (monthAmount m) holds-amounts;

@@ -16,6 +16,7 @@ use Rattle.month_sums.specs.declared.Outcome.{Outcome}
 use Rattle.month_sums.specs.declared.Settlement.{Settlement}
 use Rattle.month_sums.specs.declared.Settlement.the-variants.{Settled, Refused}
 use Rattle.hour_settled.specs.declared.Sums.{Sums}
+use Rattle.setting.specs.declared.Setting.{Setting}
 use Rattle.rules.specs.Month.{monthOf, monthDistributed, monthPeriodised, monthLoss, monthDifference, monthAmount}
 use Rattle.rules.specs.MonthFile.{MonthFile, P}
 use Rattle.rules.specs.Refusals.{accepted, afterwards}
@@ -42,11 +43,11 @@ one-content new old same p q = p ∙ ap (λ (u : Settlement). afterwards (verdic
 
 -- `settle`
 pub settle-unique :
-    {file : List ℕ} {r r′ : Settlement} (lent held held′ : Outputs)
-    → Kept file r lent held
-    → Kept file r′ lent held′
+    {setting : Setting} {file : List ℕ} {r r′ : Settlement} (lent held held′ : Outputs)
+    → Kept setting file r lent held
+    → Kept setting file r′ lent held′
     → (r ≡ r′) × (held ≡ held′)
-settle-unique {file} {r} {r′} lent held held′ one other = (
+settle-unique {file = file} {r = r} {r′ = r′} lent held held′ one other = (
   same,
   λ i. record { distributed = distributed i; periodised = periodised i; losses = losses i; differences = differences i; amounts = amounts i },
 )
@@ -96,7 +97,7 @@ sums-once m x y p q =
     loss = p .loss ∙ sym (q .loss)
 
 -- `settle_read`: one answer; and where it accepts, one count of estimated hours and one array of each sum. (Refused, it promises nothing of the count and sums.)
-module _ {m : MonthFile} {r s : Outcome} (p : OutcomeIs m r) (q : OutcomeIs m s) where
+module _ {setting : Setting} {m : MonthFile} {r s : Outcome} (p : OutcomeIs setting m r) (q : OutcomeIs setting m s) where
   pub settle-read-answer-unique : r .answer ≡ s .answer
   settle-read-answer-unique = said-once (r .answer) (s .answer) (p .verdict ∙ sym (q .verdict))
 

@@ -1,5 +1,6 @@
--- The demands (00) of the call on a whole file, over the file's bytes: when it accepts and when it refuses (demand 2), and what holds of an accepted month and
--- of the lent outputs (demand 3, and the sums that must come out). That they hold of every answer that meets the call's promise is proved in proofs/Theorems.
+-- The demands (00) of the call on a whole file, over the file's bytes and the setting given (02, W1): when it accepts and when it refuses (demand 2), and what
+-- holds of an accepted month and of the lent outputs (demand 3, and the sums that must come out). That they hold of every answer that meets the call's promise
+-- is proved in proofs/Theorems.
 use mathlib.Core.Bool.{Bool, true, false}
 use mathlib.Core.List.{List}
 use mathlib.Core.Path.{_≡_}
@@ -8,6 +9,8 @@ use lib.IntN.{ℤ, pos}
 use lib.ListN.{length}
 use Rattle.month_sums.specs.Told.{lentRight, Promised}
 use Rattle.month_sums.specs.declared.Settlement.{Settlement}
+use Rattle.setting.specs.Asked.{asked}
+use Rattle.setting.specs.declared.Setting.{Setting}
 use Rattle.rules.specs.Accepted.{NoneRefuses, FirstRefuses}
 use Rattle.rules.specs.Demands.{sumSinceFirst, Demand3}
 use Rattle.rules.specs.Flows.{residual}
@@ -18,6 +21,7 @@ use Rattle.rules.specs.Reconciliation.{lossOf}
 use Rattle.rules.specs.ReadingRefused.{ReadingRefuses}
 use Rattle.rules.specs.Refusals.{Refusal, wrongLength, given}
 use Rattle.rules.specs.Services.{atℤ}
+use Rattle.rules.specs.Setting.{final}
 use Rattle.rules.specs.WellFormed.{WellFormed, fileOf}
 use Rattle.rules.specs.Words.{sum, sumℤ, at}
 
@@ -30,9 +34,9 @@ pub record Outputs : Type 0 where
   pub amounts : List ℤ
 
 -- the promise of the call (`month_sums`), of such outputs before and after it
-abbrev pub Kept : List ℕ → Settlement → Outputs → Outputs → Type 0
-Kept file r lent held =
-    Promised file r (lent .distributed) (lent .periodised) (lent .losses) (lent .differences) (lent .amounts)
+abbrev pub Kept : Setting → List ℕ → Settlement → Outputs → Outputs → Type 0
+Kept setting file r lent held =
+    Promised setting file r (lent .distributed) (lent .periodised) (lent .losses) (lent .differences) (lent .amounts)
     (held .distributed) (held .periodised) (held .losses) (held .differences) (held .amounts)
 
 -- every lent output has a place for each party
@@ -46,38 +50,41 @@ pub record FileOf (file : List ℕ) (month : MonthFile) : Type 0 where
   pub well-formed : WellFormed month
   pub its-bytes : file ≡ fileOf month
 
--- "A month is accepted exactly when no refusal there applies.": the file is that of a well-formed month, no check of the month refuses, and not 16
-pub record NoRefusalApplies (file : List ℕ) (lent : Outputs) : Type 0 where
+-- "A month is accepted exactly when no refusal there applies.": the file is that of a well-formed month, no check of the month refuses under the setting
+-- given, and not 16
+pub record NoRefusalApplies (setting : Setting) (file : List ℕ) (lent : Outputs) : Type 0 where
   pub month : MonthFile
   pub is-its-file : FileOf file month
-  pub no-check-refuses : NoneRefuses (monthChecks month)
+  pub no-check-refuses : NoneRefuses (monthChecks (asked setting) month)
   pub lent-right : placesRight (P month) lent ≡ true
 
--- "The file is read first", "Then 6; then the fixed hours ..": the file is that of a well-formed month, and of the month's checks in their order this is the
+-- "The file is read first"; W1: 17 "after the file is read and before 6"; "Then 6; then the fixed hours ..": the file is that of a well-formed month, and of the month's checks in their order this is the
 -- first that refuses
-pub record MonthRefuses (file : List ℕ) (r : Refusal) (place : ℕ) : Type 0 where
+pub record MonthRefuses (setting : Setting) (file : List ℕ) (r : Refusal) (place : ℕ) : Type 0 where
   pub month : MonthFile
   pub is-its-file : FileOf file month
-  pub first-refuses : FirstRefuses (monthChecks month) r place
+  pub first-refuses : FirstRefuses (monthChecks (asked setting) month) r place
 
 -- "last, for a call on a whole month, 16", at place 0: no check of the month refuses, and some lent output has not a place for each party
-pub record LentWrong (file : List ℕ) (lent : Outputs) (r : Refusal) (place : ℕ) : Type 0 where
+pub record LentWrong (setting : Setting) (file : List ℕ) (lent : Outputs) (r : Refusal) (place : ℕ) : Type 0 where
   pub month : MonthFile
   pub is-its-file : FileOf file month
-  pub no-check-refuses : NoneRefuses (monthChecks month)
+  pub no-check-refuses : NoneRefuses (monthChecks (asked setting) month)
   pub lent-wrong : placesRight (P month) lent ≡ false
   pub is-16 : r ≡ wrongLength
   pub at-0 : place ≡ 0
 
 -- the refusal that applies, with its place: one of reading, else one of the month, else 16
-pub data RefusalApplies (file : List ℕ) (lent : Outputs) (r : Refusal) (place : ℕ) : Type 0 where
-  of-reading : ReadingRefuses file r place → RefusalApplies file lent r place
-  of-the-month : MonthRefuses file r place → RefusalApplies file lent r place
-  of-the-lent : LentWrong file lent r place → RefusalApplies file lent r place
+pub data RefusalApplies (setting : Setting) (file : List ℕ) (lent : Outputs) (r : Refusal) (place : ℕ) : Type 0 where
+  of-reading : ReadingRefuses (asked setting) file r place → RefusalApplies setting file lent r place
+  of-the-month : MonthRefuses setting file r place → RefusalApplies setting file lent r place
+  of-the-lent : LentWrong setting file lent r place → RefusalApplies setting file lent r place
 
 -- WHAT HOLDS OF AN ACCEPTED MONTH: m is the month that the file is read as; `held` is what the lent outputs hold once the call has answered
-pub record MonthMeets (file : List ℕ) (m : MonthFile) (held : Outputs) : Type 0 where
-  pub read : readMonth file ≡ given m
+pub record MonthMeets (setting : Setting) (file : List ℕ) (m : MonthFile) (held : Outputs) : Type 0 where
+  pub read : readMonth (asked setting) file ≡ given m
+  -- W1: "A file with no 06 records shall be refused unless the caller says that the month is provisional.": in a final run there is a refixed hour for each hour
+  pub refixed-or-provisional : asked setting ≡ final → length (m .refixed) ≡ H m
   -- "one line per party in order": a figure for each party in every lent output, and nothing more
   pub distributed-size : length (held .distributed) ≡ P m
   pub periodised-size : length (held .periodised) ≡ P m

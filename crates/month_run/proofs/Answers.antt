@@ -16,41 +16,43 @@ use Rattle.file_sections.proofs.AcceptedFile.{read-as, hours-are, parties-are}
 use Rattle.month_run.specs.Run.{inMonth, lentRight, askedVerdict, runVerdict, Promised}
 use Rattle.month_run.specs.Running.{MonthAccepted, RunLent, RunIs}
 use Rattle.month_run.proofs.Verdicts.{run-inside, lengths}
+use Rattle.setting.specs.Asked.{asked}
+use Rattle.setting.specs.declared.Setting.{Setting}
 use Rattle.rules.specs.Month.{monthOf, verdictOn, fileVerdict}
 use Rattle.rules.specs.MonthFile.{H, P}
 use Rattle.rules.specs.Refusals.{outOfRange, wrongLength, Verdict, accepted, refused, unless, andThen, afterwards}
 use Rattle.rules.proofs.Refusals.{both-accept, unless-exactly}
 
-module _ (file : List ℕ) (start hours : ℕ) (d : List ℤ) (p : List ℕ) (x l : List ℤ) where
-  abbrev asked : Verdict
-  asked = askedVerdict (H (monthOf file)) (P (monthOf file)) start hours (length d) (length p) (length x) (length l)
+module _ (setting : Setting) (file : List ℕ) (start hours : ℕ) (d : List ℤ) (p : List ℕ) (x l : List ℤ) where
+  abbrev verdict-asked : Verdict
+  verdict-asked = askedVerdict (H (monthOf file)) (P (monthOf file)) start hours (length d) (length p) (length x) (length l)
 
   -- a refused call leaves every lent output as it was
   pub refused-call :
       {r : Answer} {v : Refusal} {place : ℕ}
       → r ≡ Refused v place
-      → said r ≡ runVerdict file start hours (length d) (length p) (length x) (length l)
-      → Promised file start hours r d p x l d p x l
+      → said r ≡ runVerdict setting file start hours (length d) (length p) (length x) (length l)
+      → Promised setting file start hours r d p x l d p x l
   unfolding afterwards
   refused-call {r} {v} {place} e is =
       record { answer = is; distributed = rw e refl; periodised = rw e refl; differences = rw e refl; losses = rw e refl }
 
   -- where the file itself is refused, nothing more is asked
-  pub refused-file : {r : Answer} {v : Refusal} {place : ℕ} → r ≡ Refused v place → fileVerdict file ≡ refused (named v) place → Promised file start hours r d p x l d p x l
+  pub refused-file : {r : Answer} {v : Refusal} {place : ℕ} → r ≡ Refused v place → fileVerdict (asked setting) file ≡ refused (named v) place → Promised setting file start hours r d p x l d p x l
   unfolding runVerdict andThen
   refused-file {r} {v} {place} e is =
-      refused-call e (ap said e ∙ sym (ap (λ (u : Verdict). andThen u asked) is))
+      refused-call e (ap said e ∙ sym (ap (λ (u : Verdict). andThen u verdict-asked) is))
 
-module _ {file : List ℕ} {s : Sections} (ok : Accepted file s) (none : MonthAccepted (monthOf file)) where
+module _ {setting : Setting} {file : List ℕ} {s : Sections} (ok : Accepted file s) (none : MonthAccepted setting (monthOf file)) where
   -- the month is not refused, so what is asked of it decides
   module _ (start hours d p x l : ℕ) (right : Answer) (judged : said right ≡ askedVerdict (s .heading .hours) (s .heading .parties) start hours d p x l) where
-    run-verdict : said right ≡ runVerdict file start hours d p x l
+    run-verdict : said right ≡ runVerdict setting file start hours d p x l
     unfolding runVerdict andThen fileVerdict verdictOn
     run-verdict =
         judged
         ∙ sym
         (ap (λ (u : Verdict). andThen u (askedVerdict (H (monthOf file)) (P (monthOf file)) start hours d p x l))
-        (ap verdictOn (read-as file s ok) ∙ none .accepts)
+        (ap (verdictOn (asked setting)) (read-as file s ok (asked setting)) ∙ none .accepts)
         ∙ ap₂ (λ (h n : ℕ). askedVerdict h n start hours d p x l) (sym (hours-are file s ok)) (sym (parties-are file s ok)))
 
     module _ (passed : right ≡ Done) where
@@ -81,14 +83,14 @@ module _ {file : List ℕ} {s : Sections} (ok : Accepted file s) (none : MonthAc
   module _ (start hours : ℕ) (d : List ℤ) (p : List ℕ) (x l : List ℤ) {right : Answer}
       (judged : said right ≡ askedVerdict (s .heading .hours) (s .heading .parties) start hours (length d) (length p) (length x) (length l)) where
     -- 4 or 16
-    pub refused-run : {v : Refusal} {place : ℕ} → right ≡ Refused v place → Promised file start hours right d p x l d p x l
-    refused-run e = refused-call file start hours d p x l e (run-verdict start hours (length d) (length p) (length x) (length l) right judged)
+    pub refused-run : {v : Refusal} {place : ℕ} → right ≡ Refused v place → Promised setting file start hours right d p x l d p x l
+    refused-run e = refused-call setting file start hours d p x l e (run-verdict start hours (length d) (length p) (length x) (length l) right judged)
 
     pub written :
         right ≡ Done
         → {d′ : List ℤ} {p′ : List ℕ} {x′ l′ : List ℤ}
         → RunIs (monthOf file) start (length l) d′ p′ x′ l′
-        → Promised file start hours Done d p x l d′ p′ x′ l′
+        → Promised setting file start hours Done d p x l d′ p′ x′ l′
     unfolding afterwards
     written passed {d′} {p′} {x′} {l′} r =
         let as-many : length l ≡ hours = sizes start hours (length d) (length p) (length x) (length l) right judged passed .3 in

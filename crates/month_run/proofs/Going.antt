@@ -16,7 +16,6 @@ use Rattle.month_run.specs.Running.{RunKnown, RunLent, Running, RunIs}
 use Rattle.month_walk.specs.Walking.{Beginning, Walked, begun, StepAsked, HourOn, SteppedIs, HourAsked, windowPlaces}
 use Rattle.month_walk.specs.declared.Walk.{Walk}
 use Rattle.month_walk.proofs.Walking.{walk-begins, residual-there, few, hour-on}
-use Rattle.month_sums.proofs.Chain.{hours-accepted}
 use Rattle.rules.specs.Limits.{mostHours}
 use Rattle.rules.specs.Month.{monthOf}
 use Rattle.rules.specs.MonthFile.{MonthFile, H, P}
@@ -90,7 +89,7 @@ module _ {file : List ℕ} {s : Sections} {applied curveNumbers beginnings : Lis
       done : (a : Answer) → r .answer ≡ a → r .answer ≡ Done
       done Done e = e
       done (Refused v place) e =
-          absurd (refused-not-accepted (sym (ap said e) ∙ is .stopped v place e ∙ hours-accepted m (known .none-refuses .accepts)))
+          absurd (refused-not-accepted (sym (ap said e) ∙ is .stopped v place e ∙ known .none-refuses))
 
       on : HourOn m (w .t) r window′
       on = is .on (done (r .answer) refl)

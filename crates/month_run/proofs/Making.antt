@@ -16,17 +16,19 @@ use Rattle.file_sections.specs.Walk.{Accepted}
 use Rattle.file_sections.specs.declared.Sections.{Sections}
 use Rattle.month_run.specs.Running.{MonthAccepted, RunKnown}
 use Rattle.residual.specs.Applied.{appliedOf}
+use Rattle.setting.specs.Asked.{asked}
+use Rattle.setting.specs.declared.Setting.{Setting}
 use Rattle.rules.specs.Month.{monthOf}
 use Rattle.rules.specs.MonthFile.{MonthFile}
 
-pub none-refuses : {m : MonthFile} {outcome : Outcome} → OutcomeIs m outcome → outcome .answer ≡ Done → MonthAccepted m
+pub none-refuses : {setting : Setting} {m : MonthFile} {outcome : Outcome} → OutcomeIs setting m outcome → outcome .answer ≡ Done → MonthAccepted setting m
 none-refuses told done = record { accepts = sym (told .verdict) ∙ ap said done }
 
-module _ {file : List ℕ} {s : Sections} (ok : Accepted file s)
-    {made : Made} {fixed refixed numbers begun : List ℕ} (is : MadeIs (monthOf file) made fixed refixed numbers begun)
-    (none : MonthAccepted (monthOf file)) where
+module _ {setting : Setting} {file : List ℕ} {s : Sections} (ok : Accepted file s)
+    {made : Made} {fixed refixed numbers begun : List ℕ} (is : MadeIs setting (monthOf file) made fixed refixed numbers begun)
+    (none : MonthAccepted setting (monthOf file)) where
   pub run-known : {has : Bool} → has ≡ not (eqb (s .refixed) 0) → {applied : List ℕ} → applied ≡ appliedOf fixed refixed has → RunKnown file s applied numbers begun
-  run-known by e = record { month = C.month-known file s ok (C.all-made is (none .accepts)) by e; none-refuses = none }
+  run-known by e = record { month = C.month-known file s ok (C.all-made is (none .accepts)) by e; none-refuses = C.hours-accepted (asked setting) (monthOf file) (none .accepts) }
 
   pub begins : Beginning file (made .carries)
   begins = C.beginning file s ok (C.all-made is (none .accepts))

@@ -13,6 +13,7 @@ use Rattle.answer.proofs.Said.{said-once}
 use Rattle.month_run.specs.Run.{Promised}
 use Rattle.month_run.specs.InRun.{distributedInRun, periodisedInRun, differenceInRun, lossInRun}
 use Rattle.month_run.proofs.OneHour.{in-run}
+use Rattle.setting.specs.declared.Setting.{Setting}
 use Rattle.rules.specs.Month.{monthOf, distributed, periodised, difference, loss, monthDistributed, monthPeriodised, monthDifference, monthLoss}
 use Rattle.rules.specs.MonthFile.{MonthFile, H, P}
 use Rattle.rules.specs.Reconciliation.{lossOf}
@@ -35,7 +36,7 @@ there figure nothing hours n t i b l =
     ∙ ap (λ (h : ℕ). figure h i) (zero-add t)
 
 -- the run of all hours of an accepted month
-module _ {file : List ℕ} {d₀ : List ℤ} {p₀ : List ℕ} {x₀ l₀ d : List ℤ} {p : List ℕ} {x l : List ℤ} (r : Promised file 0 (H (monthOf file)) Done d₀ p₀ x₀ l₀ d p x l) where
+module _ {setting : Setting} {file : List ℕ} {d₀ : List ℤ} {p₀ : List ℕ} {x₀ l₀ d : List ℤ} {p : List ℕ} {x l : List ℤ} (r : Promised setting file 0 (H (monthOf file)) Done d₀ p₀ x₀ l₀ d p x l) where
   abbrev m : MonthFile
   m = monthOf file
 
@@ -69,10 +70,10 @@ module _ {file : List ℕ} {d₀ : List ℤ} {p₀ : List ℕ} {x₀ l₀ d : Li
       ∙ ap (loss m) (zero-add t)))
 
 -- two answers with lent outputs that both meet the promise are equal
-module _ (file : List ℕ) (start hours : ℕ) {a b : Answer}
+module _ (setting : Setting) (file : List ℕ) (start hours : ℕ) {a b : Answer}
     {d₀ : List ℤ} {p₀ : List ℕ} {x₀ l₀ d d′ : List ℤ} {p p′ : List ℕ} {x l x′ l′ : List ℤ}
-    (u : Promised file start hours a d₀ p₀ x₀ l₀ d p x l)
-    (v : Promised file start hours b d₀ p₀ x₀ l₀ d′ p′ x′ l′) where
+    (u : Promised setting file start hours a d₀ p₀ x₀ l₀ d p x l)
+    (v : Promised setting file start hours b d₀ p₀ x₀ l₀ d′ p′ x′ l′) where
   alike : said a ≡ said b
   alike = u .answer ∙ sym (v .answer)
 

@@ -10,6 +10,8 @@ use lib.ListN.{length}
 use Rattle.answer.specs.Said.{said}
 use Rattle.answer.specs.declared.Answer.{Answer}
 use Rattle.month_run.specs.InRun.{distributedInRun, periodisedInRun, differenceInRun, lossInRun}
+use Rattle.setting.specs.Asked.{asked}
+use Rattle.setting.specs.declared.Setting.{Setting}
 use Rattle.rules.specs.Month.{monthOf, fileVerdict}
 use Rattle.rules.specs.MonthFile.{H, P}
 use Rattle.rules.specs.Refusals.{outOfRange, wrongLength, Verdict, unless, andThen, afterwards}
@@ -30,15 +32,15 @@ askedVerdict all parties start hours distributed periodised differences losses =
     andThen (unless (inMonth all start hours) outOfRange 0)
     (unless (lentRight (hours * parties) hours distributed periodised differences losses) wrongLength 0)
 
--- THE VERDICT OF THE CALL: all that refuses the month, over all its hours, and then what is asked of it
-unfoldable pub runVerdict : List ℕ → ℕ → ℕ → ℕ → ℕ → ℕ → ℕ → Verdict
-runVerdict file start hours distributed periodised differences losses =
-    andThen (fileVerdict file)
+-- THE VERDICT OF THE CALL: all that refuses the month under the setting given, over all its hours, and then what is asked of it
+unfoldable pub runVerdict : Setting → List ℕ → ℕ → ℕ → ℕ → ℕ → ℕ → ℕ → Verdict
+runVerdict setting file start hours distributed periodised differences losses =
+    andThen (fileVerdict (asked setting) file)
     (askedVerdict (H (monthOf file)) (P (monthOf file)) start hours distributed periodised differences losses)
 
 -- THE PROMISE OF THE CALL: its answer, and what each lent output holds afterwards
-pub record Promised (file : List ℕ) (start hours : ℕ) (r : Answer) (d₀ : List ℤ) (p₀ : List ℕ) (x₀ l₀ d : List ℤ) (p : List ℕ) (x l : List ℤ) : Type 0 where
-  pub answer : said r ≡ runVerdict file start hours (length d₀) (length p₀) (length x₀) (length l₀)
+pub record Promised (setting : Setting) (file : List ℕ) (start hours : ℕ) (r : Answer) (d₀ : List ℤ) (p₀ : List ℕ) (x₀ l₀ d : List ℤ) (p : List ℕ) (x l : List ℤ) : Type 0 where
+  pub answer : said r ≡ runVerdict setting file start hours (length d₀) (length p₀) (length x₀) (length l₀)
   pub distributed : d ≡ afterwards (said r) (figures (hours * P (monthOf file)) (distributedInRun (monthOf file) start)) d₀
   pub periodised : p ≡ afterwards (said r) (figures (hours * P (monthOf file)) (periodisedInRun (monthOf file) start)) p₀
   pub differences : x ≡ afterwards (said r) (figures (hours * P (monthOf file)) (differenceInRun (monthOf file) start)) x₀

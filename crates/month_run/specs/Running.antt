@@ -9,21 +9,23 @@ use Rattle.file_sections.specs.declared.Sections.{Sections}
 use Rattle.hour_settled.specs.declared.Settled.{Settled}
 use Rattle.month_walk.specs.Walking.{MonthKnown}
 use Rattle.month_run.specs.InRun.{distributedInRun, periodisedInRun, differenceInRun, lossInRun}
+use Rattle.setting.specs.Asked.{asked}
+use Rattle.setting.specs.declared.Setting.{Setting}
 use Rattle.rules.specs.Limits.{mostParties}
-use Rattle.rules.specs.Month.{monthOf, monthVerdict}
+use Rattle.rules.specs.Month.{monthOf, periodisedVerdict, monthVerdict}
 use Rattle.rules.specs.MonthFile.{MonthFile, H, P}
-use Rattle.rules.specs.Refusals.{accepted}
+use Rattle.rules.specs.Refusals.{accepted, inTurn}
 use Rattle.rules.specs.Words.{figures}
 use Rattle.rules.proofs.Loops.{Filling}
 
--- none of the month's checks refuses it
-pub record MonthAccepted (m : MonthFile) : Type 0 where
-  pub accepts : monthVerdict m ≡ accepted
+-- none of the month's checks refuses it, under the setting
+pub record MonthAccepted (setting : Setting) (m : MonthFile) : Type 0 where
+  pub accepts : monthVerdict (asked setting) m ≡ accepted
 
--- what the run is walked with
+-- what the run is walked with: no hour of the month is refused with 14
 pub record RunKnown (file : List ℕ) (s : Sections) (applied curveNumbers beginnings : List ℕ) : Type 0 where
   pub month : MonthKnown file s applied curveNumbers beginnings
-  pub none-refuses : MonthAccepted (monthOf file)
+  pub none-refuses : inTurn (H (monthOf file)) (periodisedVerdict (monthOf file)) ≡ accepted
 
 -- a run of as many hours as losses are asked for lies in the month, and a place is lent for each figure
 pub record RunLent (m : MonthFile) (start distributed periodised differences losses : ℕ) : Type 0 where

@@ -22,6 +22,7 @@ use Rattle.report_figures.specs.Passing.{SumsLent, MonthPassed}
 use Rattle.report_figures.specs.declared.Passed.{Passed}
 use Rattle.report_figures.proofs.OneHour.{w-is}
 use Rattle.month_walk.proofs.Carrying.{carried-start}
+use Rattle.setting.specs.declared.Setting.{Setting}
 use Rattle.rules.specs.Month.{monthOf, periodisedVerdict}
 use Rattle.rules.specs.MonthFile.{MonthFile, H}
 use Rattle.rules.proofs.Loops.{fill-end}
@@ -33,16 +34,16 @@ last-hour : (m : MonthFile) → Judged m → suc (H m - 1) ≡ H m
 unfolding H
 last-hour m j = omega (arith, heading-right m j .hours .0)
 
-module _ {m : MonthFile} {made : Made} {fixed refixed numbers begun : List ℕ} (is : MadeIs m made fixed refixed numbers begun) {d : List ℤ} {p : List ℕ} where
+module _ {setting : Setting} {m : MonthFile} {made : Made} {fixed refixed numbers begun : List ℕ} (is : MadeIs setting m made fixed refixed numbers begun) {d : List ℤ} {p : List ℕ} where
   pub not-made :
       {x : Refusal} {place : ℕ}
       → made .answer ≡ Refused x place → (estimated w : ℕ) (distances : Distances)
-      → HourlyIs m (record { answer = made .answer; estimated = estimated; w = w; distances = distances }) fixed refixed numbers d p
+      → HourlyIs setting m (record { answer = made .answer; estimated = estimated; w = w; distances = distances }) fixed refixed numbers d p
   not-made e estimated w distances =
       record { verdict = refused-before is e; made = λ a. absurd (refused-not-accepted (sym (ap said e) ∙ a)) }
 
   module _ (done : made .answer ≡ Done) {r : Passed} (passed : MonthPassed m r d p) where
-    pub numbers-made : HourlyIs m (record { answer = r .answer; estimated = made .estimated; w = made .carries .w; distances = r .distances }) fixed refixed numbers d p
+    pub numbers-made : HourlyIs setting m (record { answer = r .answer; estimated = made .estimated; w = made .carries .w; distances = r .distances }) fixed refixed numbers d p
     numbers-made =
         let before = is .made (ap said done) in
         record {
@@ -76,10 +77,10 @@ sums-lent {file} {s} asked =
     }
 
 -- the beginnings that were made, lent again
-module _ {m : MonthFile} {made : Made} {f r c part : List ℕ} (is : MadeIs m made f r c part)
+module _ {setting : Setting} {m : MonthFile} {made : Made} {f r c part : List ℕ} (is : MadeIs setting m made f r c part)
     (n : ℕ) (lent : List ℕ) {places : ℕ} (size : length lent ≡ places) (enough : n ≤ places) (same : length part ≡ length (midOf 0 (n - 0) lent)) where
   pub part-enough : n ≤ length (putMid 0 (n - 0) lent part)
   part-enough = omega (arith, still-as-many n lent part size enough same)
 
-  pub as-lent-again : MadeIs m made f r c (take (n - 0) (putMid 0 (n - 0) lent part))
-  as-lent-again = subst (λ (l : List ℕ). MadeIs m made f r c l) (sym (lent-again n lent part size enough same)) is
+  pub as-lent-again : MadeIs setting m made f r c (take (n - 0) (putMid 0 (n - 0) lent part))
+  as-lent-again = subst (λ (l : List ℕ). MadeIs setting m made f r c l) (sym (lent-again n lent part size enough same)) is

@@ -11,6 +11,8 @@ use Rattle.file_sections.specs.Walk.{Accepted}
 use Rattle.file_sections.specs.declared.Sections.{Sections}
 use Rattle.report_figures.specs.declared.Hourly as D
 use Rattle.month_series.specs.Series.{residualAt}
+use Rattle.setting.specs.Asked.{asked}
+use Rattle.setting.specs.declared.Setting.{Setting}
 use Rattle.rules.specs.HoursReport.{allDistributed, smallestDistance, largestDistance}
 use Rattle.rules.specs.Limits.{greatestPeriodised}
 use Rattle.rules.specs.Month.{monthW, fixedWh, curve, allPeriodised, estimatedHours, monthVerdict}
@@ -42,6 +44,6 @@ pub record HourlyMade (m : MonthFile) (r : D.Hourly) (fixed refixed curveNumbers
   pub smallest : Filled (pos 0) (smallestDistance m (H m - 1)) (P m) (r .distances .smallest)
   pub largest : Filled (pos 0) (largestDistance m (H m - 1)) (P m) (r .distances .largest)
 
-pub record HourlyIs (m : MonthFile) (r : D.Hourly) (fixed refixed curveNumbers : List ℕ) (distributed : List ℤ) (periodised : List ℕ) : Type 0 where
-  pub verdict : said (r .answer) ≡ monthVerdict m
+pub record HourlyIs (setting : Setting) (m : MonthFile) (r : D.Hourly) (fixed refixed curveNumbers : List ℕ) (distributed : List ℤ) (periodised : List ℕ) : Type 0 where
+  pub verdict : said (r .answer) ≡ monthVerdict (asked setting) m
   pub made : said (r .answer) ≡ R.accepted → HourlyMade m r fixed refixed curveNumbers distributed periodised

@@ -1,15 +1,10 @@
--- 17 by the setting and the number of 06 records; and that no second answer fits.
-use mathlib.Core.Bool.{true}
-use mathlib.Core.Path.{_≡_, refl, sym, _∙_, ap}
-use Prim.Native.Nat.{ℕ, zero, suc, _≤_}
+-- 17 by the setting and the number of 06 records.
+use mathlib.Core.Path.{_≡_, sym, ap}
+use Prim.Native.Nat.{ℕ}
 use native.Mathlib.Omega.{arith}
 use borrow.Author.Tests.{le-leb}
-use lib.Dec.{leb}
-use Rattle.answer.specs.Said.{said}
-use Rattle.answer.specs.declared.Answer.{Answer}
 use Rattle.answer.specs.declared.Answer.the-variants.{Done, Refused}
 use Rattle.answer.specs.declared.Refusal.the-variants.{NotRefixed}
-use Rattle.answer.proofs.Said.{said-once}
 use Rattle.setting.specs.Asked.{asked, Promised}
 use Rattle.setting.specs.declared.Setting.{Setting}
 use Rattle.setting.specs.declared.Setting.the-variants.{Final, Provisional}
@@ -28,7 +23,3 @@ module _ {setting : Setting} (refixed : ℕ) where
   pub final-with : setting ≡ Final → (refixed ≡ 0 → ⊥) → Promised setting refixed Done
   unfolding refixedVerdict unless
   final-with is some = rw (is, le-leb 1 refixed (omega (arith, some)))
-
--- `refixed_or_provisional`
-pub refixed-or-provisional-unique : (setting : Setting) (refixed : ℕ) {r s : Answer} → Promised setting refixed r → Promised setting refixed s → r ≡ s
-refixed-or-provisional-unique setting refixed {r} {s} one other = said-once r s (one ∙ sym other)

@@ -1,5 +1,7 @@
 //! What several tests share.
 
+use second::hours::hours;
+use second::preview::preview;
 use second::refusal::Refusal;
 use second::statement::statement;
 
@@ -12,17 +14,47 @@ pub fn told<T>(answer: Result<T, Refusal>) -> (u8, usize) {
     }
 }
 
-/// That the statement of a file is this one refusal line.
+/// That every program refuses a file with this one line.
 #[allow(dead_code)]
 #[track_caller]
 pub fn assert_refused(file: &[u8], number: u8, place: usize) {
-    assert_eq!(statement(file), format!("refused {number} at {place}\n"));
+    assert_refused_as_final(file, number, place);
+    assert_refused_as_provisional(file, number, place);
 }
 
-/// That a file is settled.
+/// That the final programs refuse a file with this one line.
+#[allow(dead_code)]
+#[track_caller]
+pub fn assert_refused_as_final(file: &[u8], number: u8, place: usize) {
+    let line = format!("refused {number} at {place}\n");
+    assert_eq!(statement(file), line);
+    assert_eq!(hours(file), line);
+}
+
+/// That the preview of a file is this one refusal line.
+#[allow(dead_code)]
+#[track_caller]
+pub fn assert_refused_as_provisional(file: &[u8], number: u8, place: usize) {
+    assert_eq!(preview(file), format!("refused {number} at {place}\n"));
+}
+
+/// That every program settles a file, and the preview as the statement.
 #[allow(dead_code)]
 #[track_caller]
 pub fn assert_accepted(file: &[u8]) {
     let text = statement(file);
     assert!(text.starts_with("area "), "{text}");
+    assert!(hours(file).starts_with("area "));
+    assert_eq!(preview(file), text);
+}
+
+/// That a file is settled as a provisional month, and refused as a final one.
+#[allow(dead_code)]
+#[track_caller]
+pub fn assert_accepted_as_provisional(file: &[u8]) {
+    assert_refused_as_final(file, 17, 0);
+    let text = preview(file);
+    let (heading, _) = text.split_once('\n').unwrap();
+    assert!(heading.starts_with("area "), "{text}");
+    assert!(heading.ends_with(" provisional"), "{text}");
 }

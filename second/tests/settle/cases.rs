@@ -1,5 +1,7 @@
 //! 01's "Figures to check against", and its bounds, through the compiled services.
 
+use second::setting::Setting;
+
 use crate::compiled::{curve, distribution, invoice_ore, periodisation, reconciliation, residual};
 
 fn residual_of_one(status: u8, flows: (i64, u64, u64, u64)) -> Result<Vec<u32>, (u8, usize)> {
@@ -52,7 +54,7 @@ fn m1() {
 #[test]
 fn s1() {
     let file = second::examples::s1().bytes();
-    let month = second::month::settle(&file).unwrap();
+    let month = second::month::settle(&file, Setting::Final).unwrap();
     let applied = &month.refixed_wh;
     assert_eq!(
         curve(&month.fixed_wh, 10_000_000, 3),

@@ -6,6 +6,9 @@ use borrow.Author.Needs.{needs}
 use Rattle.month_run.proofs.hours.Statement.{statement}
 use Rattle.month_run.proofs.hours.Tie as tie
 
+abbrev begins : tie.After-read → tie.Start
+begins c = c .before .before .before
+
 read-requires : tie.Need-read-requires
 read-requires c κs = search needs
 
@@ -16,10 +19,15 @@ enum-known-read-2 : tie.Need-enum-known-read-2
 enum-known-read-2 c = search needs
 
 hours-accepted-requires : tie.Need-hours-accepted-requires
-hours-accepted-requires c κs = is-read _ (c .before .before .before .before .before .before .before .read .ensures) (c .before .before .before .before .before .read3 .given .1)
+hours-accepted-requires c κs =
+    let told = c .before .before .before .before .before in
+    let read = told .before .before in
+    is-read (begins read .args .setting) _ (read .read .ensures) (told .read3 .given .1)
 
 returns : tie.Need-returns
-returns c = refused-file _ _ _ _ _ _ _ refl (not-read _ (c .before .before .before .read .ensures) (c .before .read2 .given .1))
+returns c =
+    let read = c .before .before .before in
+    refused-file _ _ _ _ _ _ _ _ refl (not-read (begins read .args .setting) _ (read .read .ensures) (c .before .read2 .given .1))
 
 same-length : tie.Need-same-length
 same-length c = c .before .before .before .before .distributed-wh .given

@@ -29,8 +29,8 @@ enum-told-2 c = search needs
 
 returns : tie.Need-returns
 returns c =
-    refused-file _ _ _ _ _ _ _ (c .enum-told2 .given .1)
-    (month-refused _ _ (c .before .before .before .before .before .pre) (c .before .before .settle-read .ensures) (c .enum-told2 .given .1))
+    refused-file _ _ _ _ _ _ _ _ (c .enum-told2 .given .1)
+    (month-refused _ _ _ (c .before .before .before .before .before .pre) (c .before .before .settle-read .ensures) (c .enum-told2 .given .1))
 
 asked-requires : tie.Need-asked-requires
 asked-requires c κs = search needs
