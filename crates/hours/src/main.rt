@@ -1,18 +1,20 @@
 // THE HOURS PROGRAM: it reads one month file from standard input and prints the reviewer's report of it, which answers her three questions (00) by a line for
-// each hour and a line for each party, or `refused N at P`.
+// each hour and a line for each party, or `refused N at P`. Its setting is final (02, W1): a month with no 06 records is refused.
 //
-// What is proved of it: it is safe and ends, given that each read and write returns; and the three parts that it makes for printing, one after the other, are the
+// What is proved of it: it is safe and ends, given that each read and write returns; and the three parts that it makes for printing, one after the other, are the final
 // report of the bytes read, and of an input that is too long that of any bytes so long. That the bytes read are those of standard input, and that the parts are handed over in
 // this order and arrive, no contract can say: those of `libc::read` and `libc::write` speak of the count of one call alone. tests/streams tries it.
 use libc::STDERR_FILENO;
 use libc::STDOUT_FILENO;
 use report_text::Reported;
+use setting::Setting;
 use standard_input::Ending;
 ghost use lib.ListN.{length};
 ghost use mathlib.Core.Path.{_≡_};
 ghost use Rattle.hours.specs.Printed.{Within, printed};
 ghost use Rattle.report_text.specs.Lines.{Roomy, firstRoom, restRoom, partiesRoom};
 ghost use Rattle.rules.specs.HoursReport.{hoursReport};
+ghost use Rattle.rules.specs.Setting.{final};
 ghost use Rattle.standard_input.specs.Reading.{FullyRead, TextOf};
 
 // The most bytes of each part.
@@ -59,14 +61,14 @@ fn alone(bytes: usize) -> Parts
     }
 }
 
-// The text of a file in three parts at the starts of the buffers: THE REPORT OF THE FILE. A refusal goes to the line that is printed of it, alone; an
+// The text of a file in three parts at the starts of the buffers: THE FINAL REPORT OF THE FILE. A refusal goes to the line that is printed of it, alone; an
 // accepted month's lines are there already.
 fn file_text(file: &[u8], first: &mut [u8], rest: &mut [u8], parties: &mut [u8]) -> Parts
     requires { ⌜ Roomy (length (now first)) (length (now rest)) (length (now parties)) ⌝ }
     ensures within { λ p. ⌜ Within p (now (first .exit)) (now (rest .exit)) (now (parties .exit)) ⌝ }
-    ensures text { λ p. ⌜ printed p (now (first .exit)) (now (rest .exit)) (now (parties .exit)) ≡ hoursReport (now (file .entry)) ⌝ }
+    ensures text { λ p. ⌜ printed p (now (first .exit)) (now (rest .exit)) (now (parties .exit)) ≡ hoursReport final (now (file .entry)) ⌝ }
 {
-    let reported = report_text::report(file, first, rest, parties);
+    let reported = report_text::report(file, Setting::Final, first, rest, parties);
     let Reported::Lines(a, b, c) = reported else {
         return alone(report_text::refusal_line(reported, first));
     };
@@ -77,7 +79,7 @@ fn file_text(file: &[u8], first: &mut [u8], rest: &mut [u8], parties: &mut [u8])
     }
 }
 
-// The text of an input in the same parts, by how its reading ended: THE REPORT OF THE INPUT. Of one that is too long it is the same line, whatever its bytes; one
+// The text of an input in the same parts, by how its reading ended: THE FINAL REPORT OF THE INPUT. Of one that is too long it is the same line, whatever its bytes; one
 // that could not be read has none.
 fn input_text(
     ending: Ending,
@@ -89,7 +91,7 @@ fn input_text(
     requires { ⌜ FullyRead ending (now file) ⌝ }
     requires { ⌜ Roomy (length (now first)) (length (now rest)) (length (now parties)) ⌝ }
     ensures within { λ p. ⌜ Within p (now (first .exit)) (now (rest .exit)) (now (parties .exit)) ⌝ }
-    ensures text { λ p. ⌜ TextOf hoursReport ending (now (file .entry)) (printed p (now (first .exit)) (now (rest .exit)) (now (parties .exit))) ⌝ }
+    ensures text { λ p. ⌜ TextOf (hoursReport final) ending (now (file .entry)) (printed p (now (first .exit)) (now (rest .exit)) (now (parties .exit))) ⌝ }
 {
     match ending {
         Ending::Whole => file_text(file, first, rest, parties),

@@ -9,7 +9,7 @@ use Rattle.report_text.specs.Lines.{Known, Inside}
 use Rattle.month_prepare.proofs.Preparing.{few-hours}
 use Rattle.file_fields.specs.Fields.{FixedAsked}
 use Rattle.file_sections.specs.declared.Sections.{Sections}
-use Rattle.file_sections.proofs.AcceptedFile.{month-whole, hours-are}
+use Rattle.file_sections.proofs.AcceptedFile.{hours-are}
 use Rattle.report_lines.specs.HourText.{hourText}
 use Rattle.rules.specs.HoursReport.{hourLine, allDistributed}
 use Rattle.rules.specs.Limits.{mostHours, greatestPeriodised}
@@ -18,7 +18,6 @@ use Rattle.rules.specs.MonthFile.{MonthFile, H}
 use Rattle.rules.specs.Reconciliation.{gridLoss}
 use Rattle.rules.specs.Words.{figures}
 use Rattle.rules.proofs.Loops.{figures-length, figures-at}
-use Rattle.rules.proofs.Month.{periodised-in-range}
 
 -- lists that are known to be the month's figures
 listed : {A : Type 0} {l : List A} {n : ℕ} (f : ℕ → A) → l ≡ figures n f → length l ≡ n
@@ -75,9 +74,7 @@ module _ {file : List ℕ} {s : Sections} {fixed applied curveNumbers : List ℕ
     hour-asked = record { accepted = known .read; hour = omega (arith, this, hours-are file s (known .read)) }
 
     pub in-limit : getD periodised t 0 ≤ greatestPeriodised
-    in-limit =
-        rw (periodised-at this)
-        (periodised-in-range m (month-whole file s (known .read)) (known .no-refusal) t this)
+    in-limit = rw (periodised-at this) (known .in-limit t this)
 
     loss-is : {l : ℤ} → l ≡ pos (getD applied t 0) -ℤ pos (getD periodised t 0) → l ≡ loss m t
     unfolding loss gridLoss allPeriodised

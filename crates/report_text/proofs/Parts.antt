@@ -78,7 +78,7 @@ module _ (file : List ℕ) (s : Sections) (ok : Accepted file s) where
         ap (λ (n : ℕ). joined (figures n (lineFrom m 0))) (asked .hours-are)
         ∙ ap joined (figures-cong (min (H m) firstHours) (λ k b. ap (hourLine m) (zero-add k)))
 
-    module _ {before out₁ : List ℕ} {end₁ : ℕ} (h : Put (headingText (s .heading .area) (s .heading .year) (s .heading .month) (s .heading .hours) (s .heading .parties) estimated) before 0 out₁ end₁) (h-within : end₁ ≤ 0 + headingRoom) where
+    module _ {before out₁ : List ℕ} {end₁ : ℕ} (h : Put (headingText (s .heading .area) (s .heading .year) (s .heading .month) (s .heading .hours) (s .heading .parties) estimated (s .refixed)) before 0 out₁ end₁) (h-within : end₁ ≤ 0 + headingRoom) where
       pub room-for-hours : firstRoom ≤ length before → end₁ + hours * hourRoom ≤ length out₁
       room-for-hours room = omega (arith, put-length h, few-first)
 

@@ -1,7 +1,7 @@
 -- The report of a file: its parts in the three buffers, or its refusal.
 use mathlib.Core.Bool.{Bool, true, not, _&&_}
 use mathlib.Core.List.{List, _++_}
-use mathlib.Core.Path.{_≡_, refl, sym, _∙_, ap, ap₂}
+use mathlib.Core.Path.{_≡_, refl, sym, _∙_, ap, ap₂, subst}
 use Prim.Native.Nat.{ℕ, _<_}
 use native.Mathlib.Omega.{arith}
 use borrow.Author.Tests.{le-leb, leb-true}
@@ -11,19 +11,19 @@ use Rattle.answer.specs.Said.{named}
 use Rattle.answer.specs.declared.Refusal.{Refusal}
 use Rattle.answer.specs.declared.Refusal.the-variants.{WrongLength}
 use Rattle.report_text.specs.Lines.{firstRoom, restRoom, partiesRoom, firstPart, restPart, partiesPart, Roomy}
-use Rattle.report_text.specs.Reporting.{lengthsOf, told, rooms, reportVerdict, Promised}
+use Rattle.report_text.specs.Reporting.{lengthsOf, told, rooms, reportVerdict, Answered}
+use Rattle.report_text.specs.declared.Reported.{Reported}
 use Rattle.report_text.specs.declared.Reported.the-variants as S
 use Rattle.report_text.proofs.Parts.{parts-make-the-report}
-use Rattle.file_sections.specs.Walk.{Accepted}
-use Rattle.file_sections.specs.declared.Sections.{Sections}
-use Rattle.file_sections.proofs.AcceptedFile.{read-as, month-of}
+use Rattle.file_sections.proofs.AcceptedFile.{month-of}
 use Rattle.file_sections.proofs.Walking.{too-long}
 use Rattle.month_sums.proofs.Writing.{turned-false}
 use Rattle.rules.specs.HoursReport.{judgedReport, answeredReport, hoursReport}
 use Rattle.rules.specs.Limits.{longestFile}
-use Rattle.rules.specs.Month.{monthOf, monthVerdict, verdictOn, fileVerdict}
+use Rattle.rules.specs.Month.{monthOf, verdictOn, fileVerdict}
 use Rattle.rules.specs.MonthFile.{MonthFile, readMonth}
 use Rattle.rules.specs.Refusals as R
+use Rattle.rules.specs.Setting.{Setting}
 use Rattle.rules.specs.Statement.{refusalLine}
 use Rattle.rules.proofs.Whole.{both-pass}
 use Rattle.text.specs.Text.{LinePut, atStart}
@@ -43,40 +43,36 @@ module _ (first rest parties : ℕ) where
   all-room r =
       rw (le-leb firstRoom first (r .first-room), le-leb restRoom rest (r .rest-room), le-leb partiesRoom parties (r .parties-room)) refl
 
-module _ (file : List ℕ) (s : Sections) (ok : Accepted file s) (no-refusal : monthVerdict (monthOf file) ≡ R.accepted) where
-  abbrev m : MonthFile
-  m = monthOf file
-
-  file-accepted : fileVerdict file ≡ R.accepted
-  unfolding fileVerdict verdictOn
-  file-accepted = ap verdictOn (read-as file s ok) ∙ no-refusal
-
-  report-verdict : (a b c : ℕ) → reportVerdict file a b c ≡ R.unless (rooms a b c) R.wrongLength 0
+module _ (m : MonthFile) where
+  report-verdict : (a b c : ℕ) → reportVerdict R.accepted a b c ≡ R.unless (rooms a b c) R.wrongLength 0
   unfolding reportVerdict R.andThen
-  report-verdict a b c = ap (λ (v : R.Verdict). R.andThen v (R.unless (rooms a b c) R.wrongLength 0)) file-accepted
+  report-verdict a b c = refl
 
+  -- 16
   pub too-short :
-      (first rest parties : ℕ) {room : Bool}
+      {ofFile : R.Verdict} (first rest parties : ℕ) {room : Bool}
+      → ofFile ≡ R.accepted
       → room ≡ rooms first rest parties
       → not room ≡ true
-      → told (S.Refused WrongLength 0) ≡ R.answer (reportVerdict file first rest parties) (lengthsOf m)
+      → told (S.Refused WrongLength 0) ≡ R.answer (reportVerdict ofFile first rest parties) (lengthsOf m)
   unfolding R.answer R.unless
-  too-short first rest parties {room} is none =
-      let v : reportVerdict file first rest parties ≡ R.refused R.wrongLength 0 =
+  too-short first rest parties {room} ok is none =
+      let v : reportVerdict R.accepted first rest parties ≡ R.refused R.wrongLength 0 =
       report-verdict first rest parties ∙ ap (λ (t : Bool). R.unless t R.wrongLength 0) (sym is ∙ turned-false room none) in
-      ap (λ (w : R.Verdict). R.answer w (lengthsOf m)) (sym v)
+      ap (λ (w : R.Verdict). R.answer w (lengthsOf m)) (sym (ap (λ (w : R.Verdict). reportVerdict w first rest parties) ok ∙ v))
 
   module _ (first rest parties : List ℕ) where
+    -- its lines
     pub reported :
         Roomy (length first) (length rest) (length parties)
         → {first′ rest′ parties′ : List ℕ} {a b c : ℕ}
         → LinePut (firstPart m) first 0 firstRoom first′ a
         → LinePut (restPart m) rest 0 restRoom rest′ b
         → LinePut (partiesPart m) parties 0 partiesRoom parties′ c
-        → Promised file first rest parties (S.Lines a b c) first′ rest′ parties′
+        → Answered R.accepted m first rest parties (S.Lines a b c) first′ rest′ parties′
     unfolding R.answer R.afterwards R.unless atStart lengthsOf
     reported room {first′} {rest′} {parties′} {a} {b} {c} x y z =
-        let v : reportVerdict file (length first) (length rest) (length parties) ≡ R.accepted =
+        let v : reportVerdict R.accepted (length first) (length rest) (length parties) ≡ R.accepted =
         report-verdict (length first) (length rest) (length parties)
         ∙ ap (λ (t : Bool). R.unless t R.wrongLength 0) (all-room (length first) (length rest) (length parties) room) in
         let of-a : a ≡ length (firstPart m) = omega (arith, x .put .ends) in
@@ -90,43 +86,48 @@ module _ (file : List ℕ) (s : Sections) (ok : Accepted file s) (no-refusal : m
           all-parties = put-at-start (z .put) (omega (arith, z .within, room .parties-room));
         }
 
--- a refused file: nothing is written
-pub refused-file :
-    (file : List ℕ) (x : Refusal) (place : ℕ) (first rest parties : List ℕ)
-    → fileVerdict file ≡ R.refused (named x) place
-    → Promised file first rest parties (S.Refused x place) first rest parties
-unfolding R.answer R.afterwards reportVerdict R.andThen
-refused-file file x place first rest parties e =
-    let v : reportVerdict file (length first) (length rest) (length parties) ≡ R.refused (named x) place =
-    ap (λ (w : R.Verdict). R.andThen w (R.unless (rooms (length first) (length rest) (length parties)) R.wrongLength 0)) e in
-    record { answer = ap (λ (w : R.Verdict). R.answer w (lengthsOf (monthOf file))) (sym v); first-hours = refl; other-hours = refl; all-parties = refl }
+    -- refused before: nothing is written
+    pub refused-month :
+        {ofFile : R.Verdict} (x : Refusal) (place : ℕ)
+        → ofFile ≡ R.refused (named x) place
+        → Answered ofFile m first rest parties (S.Refused x place) first rest parties
+    unfolding R.answer R.afterwards reportVerdict R.andThen
+    refused-month x place e =
+        let v = ap (λ (w : R.Verdict). R.andThen w (R.unless (rooms (length first) (length rest) (length parties)) R.wrongLength 0)) e in
+        record { answer = ap (λ (w : R.Verdict). R.answer w (lengthsOf m)) (sym v); first-hours = refl; other-hours = refl; all-parties = refl }
 
--- THE REPORT OF A FILE is its parts
-pub report-text : (file : List ℕ) → fileVerdict file ≡ R.accepted → hoursReport file ≡ firstPart (monthOf file) ++ restPart (monthOf file) ++ partiesPart (monthOf file)
-unfolding fileVerdict verdictOn hoursReport answeredReport judgedReport
-report-text file e = go (readMonth file) refl e
-  where
-    go :
-        (a : R.Answer MonthFile)
-        → readMonth file ≡ a
-        → verdictOn a ≡ R.accepted
-        → answeredReport a ≡ firstPart (monthOf file) ++ restPart (monthOf file) ++ partiesPart (monthOf file)
-    go (R.given n) is f =
-        ap (judgedReport n) f
-        ∙ sym (parts-make-the-report n)
-        ∙ ap (λ (k : MonthFile). firstPart k ++ restPart k ++ partiesPart k) (sym (month-of file is))
-    go (R.refusal x q) is f = cc
+    -- the same by an equal verdict
+    pub answered-as :
+        {v w : R.Verdict} → v ≡ w → {r : Reported} {first′ rest′ parties′ : List ℕ} → Answered v m first rest parties r first′ rest′ parties′ → Answered w m first rest parties r first′ rest′ parties′
+    answered-as e {r} {first′} {rest′} {parties′} a = subst (λ (v : R.Verdict). Answered v m first rest parties r first′ rest′ parties′) e a
 
--- or its refusal line
-pub refusal-text : (file : List ℕ) {r : R.Refusal} {place : ℕ} → fileVerdict file ≡ R.refused r place → hoursReport file ≡ refusalLine r place
-unfolding fileVerdict verdictOn hoursReport answeredReport judgedReport
-refusal-text file {r} {place} e = go (readMonth file) e
-  where
-    go : (a : R.Answer MonthFile) → verdictOn a ≡ R.refused r place → answeredReport a ≡ refusalLine r place
-    go (R.given m) f = ap (judgedReport m) f
-    go (R.refusal x q) f = let same : x ≡ r = cc in let at : q ≡ place = cc in ap₂ refusalLine same at
+module _ (setting : Setting) (file : List ℕ) where
+  -- THE REPORT OF A FILE is its parts
+  pub report-text : fileVerdict setting file ≡ R.accepted → hoursReport setting file ≡ firstPart (monthOf file) ++ restPart (monthOf file) ++ partiesPart (monthOf file)
+  unfolding fileVerdict verdictOn hoursReport answeredReport judgedReport
+  report-text e = go (readMonth setting file) refl e
+    where
+      go :
+          (a : R.Answer MonthFile)
+          → readMonth setting file ≡ a
+          → verdictOn setting a ≡ R.accepted
+          → answeredReport setting a ≡ firstPart (monthOf file) ++ restPart (monthOf file) ++ partiesPart (monthOf file)
+      go (R.given n) is f =
+          ap (judgedReport n) f
+          ∙ sym (parts-make-the-report n)
+          ∙ ap (λ (k : MonthFile). firstPart k ++ restPart k ++ partiesPart k) (sym (month-of setting file is))
+      go (R.refusal x q) is f = cc
 
--- "An empty or too long file is refused before all else, place 0": the same line for every file that long
-pub too-long-line : (file : List ℕ) → longestFile < length file → hoursReport file ≡ refusalLine R.fileFault 0
-unfolding hoursReport answeredReport
-too-long-line file long = ap answeredReport (sym (too-long file (omega arith) long))
+  -- or its refusal line
+  pub refusal-text : {r : R.Refusal} {place : ℕ} → fileVerdict setting file ≡ R.refused r place → hoursReport setting file ≡ refusalLine r place
+  unfolding fileVerdict verdictOn hoursReport answeredReport judgedReport
+  refusal-text {r} {place} e = go (readMonth setting file) e
+    where
+      go : (a : R.Answer MonthFile) → verdictOn setting a ≡ R.refused r place → answeredReport setting a ≡ refusalLine r place
+      go (R.given m) f = ap (judgedReport m) f
+      go (R.refusal x q) f = let same : x ≡ r = cc in let at : q ≡ place = cc in ap₂ refusalLine same at
+
+  -- "An empty or too long file is refused before all else, place 0": the same line for every file that long
+  pub too-long-line : longestFile < length file → hoursReport setting file ≡ refusalLine R.fileFault 0
+  unfolding hoursReport answeredReport
+  too-long-line long = ap (answeredReport setting) (sym (too-long setting file (omega arith) long))

@@ -5,10 +5,10 @@ use Prim.Native.Nat.{ℕ}
 use Rattle.answer.specs.Said.{named}
 use Rattle.answer.proofs.Said.{named-once}
 use Rattle.report_text.specs.Lines.{firstPart, restPart, partiesPart}
-use Rattle.report_text.specs.Reporting.{Lengths, verdict, told, Promised}
+use Rattle.report_text.specs.Reporting.{Lengths, verdict, told, Answered}
 use Rattle.report_text.specs.declared.Reported.{Reported}
 use Rattle.report_text.specs.declared.Reported.the-variants.{Lines, Refused}
-use Rattle.rules.specs.Month.{monthOf}
+use Rattle.rules.specs.MonthFile.{MonthFile}
 use Rattle.rules.specs.Refusals as R
 use Rattle.text.specs.Text.{atStart}
 
@@ -31,19 +31,17 @@ told-once (Refused x place) (Refused y other) e =
     cc
 
 pub report-unique :
-    {file first rest parties : List ℕ} {r s : Reported} {a b c x y z : List ℕ}
-    → Promised file first rest parties r a b c
-    → Promised file first rest parties s x y z → (r ≡ s) × ((a ≡ x) × ((b ≡ y) × (c ≡ z)))
-report-unique {file} {first} {rest} {parties} {r} {s} p q =
+    {ofFile : R.Verdict} {m : MonthFile} {first rest parties : List ℕ} {r s : Reported} {a b c x y z : List ℕ}
+    → Answered ofFile m first rest parties r a b c
+    → Answered ofFile m first rest parties s x y z → (r ≡ s) × ((a ≡ x) × ((b ≡ y) × (c ≡ z)))
+report-unique {ofFile} {m} {first} {rest} {parties} {r} {s} p q =
     let same : r ≡ s = told-once r s (p .answer ∙ sym (q .answer)) in (
       same,
       (
-        p .first-hours ∙ ap (λ (t : Reported). R.afterwards (verdict t) (atStart (firstPart (monthOf file)) first) first) same ∙ sym (q .first-hours),
+        p .first-hours ∙ ap (λ (t : Reported). R.afterwards (verdict t) (atStart (firstPart m) first) first) same ∙ sym (q .first-hours),
         (
-          p .other-hours ∙ ap (λ (t : Reported). R.afterwards (verdict t) (atStart (restPart (monthOf file)) rest) rest) same ∙ sym (q .other-hours),
-          p .all-parties
-              ∙ ap (λ (t : Reported). R.afterwards (verdict t) (atStart (partiesPart (monthOf file)) parties) parties) same
-              ∙ sym (q .all-parties),
+          p .other-hours ∙ ap (λ (t : Reported). R.afterwards (verdict t) (atStart (restPart m) rest) rest) same ∙ sym (q .other-hours),
+          p .all-parties ∙ ap (λ (t : Reported). R.afterwards (verdict t) (atStart (partiesPart m) parties) parties) same ∙ sym (q .all-parties),
         ),
       ),
     )

@@ -3,14 +3,17 @@ use mathlib.Core.List.{List, _++_}
 use mathlib.Core.Path.{_≡_}
 use Prim.Native.Nat.{ℕ, _+_, _-_, _*_, _/_, _≤_, _<_, min}
 use lib.IntN.{ℤ, pos}
+use Rattle.answer.specs.Said.{said}
 use Rattle.apportion.specs.Filled.{Filled}
 use Rattle.report_distances.specs.declared.Distances.{Distances}
 use Rattle.file_sections.specs.Walk.{Accepted}
 use Rattle.file_sections.specs.declared.Sections.{Sections}
+use Rattle.report_figures.specs.Hourly.{HourlyMade}
+use Rattle.report_figures.specs.declared.Hourly.{Hourly}
 use Rattle.report_lines.specs.Rooms.{hourRoom, distancesRoom}
 use Rattle.rules.specs.HoursReport.{hourLine, allDistributed, smallestDistance, largestDistance, distancesLine}
-use Rattle.rules.specs.Limits.{mostHours, mostParties}
-use Rattle.rules.specs.Month.{monthOf, monthW, fixedWh, appliedWh, curve, allPeriodised, estimatedHours, monthVerdict}
+use Rattle.rules.specs.Limits.{mostHours, mostParties, greatestPeriodised}
+use Rattle.rules.specs.Month.{monthOf, monthW, fixedWh, appliedWh, curve, allPeriodised, estimatedHours}
 use Rattle.rules.specs.MonthFile.{MonthFile, H, P}
 use Rattle.rules.specs.Refusals.{accepted}
 use Rattle.rules.specs.Statement.{headingLine, joined}
@@ -48,12 +51,17 @@ partiesPart m = joined (figures (P m) (distancesLine m))
 -- an accepted month with its figures hour by hour
 pub record Known (file : List ℕ) (s : Sections) (fixed applied curveNumbers : List ℕ) (distributed : List ℤ) (periodised : List ℕ) : Type 0 where
   pub read : Accepted file s
-  pub no-refusal : monthVerdict (monthOf file) ≡ accepted
   pub fixed-is : fixed ≡ figures (H (monthOf file)) (fixedWh (monthOf file))
   pub applied-is : applied ≡ figures (H (monthOf file)) (appliedWh (monthOf file))
   pub curve-is : curveNumbers ≡ figures (H (monthOf file)) (curve (monthOf file))
   pub distributed-is : distributed ≡ figures (H (monthOf file)) (allDistributed (monthOf file))
   pub periodised-is : periodised ≡ figures (H (monthOf file)) (allPeriodised (monthOf file))
+  pub in-limit : (t : ℕ) → t < H (monthOf file) → allPeriodised (monthOf file) t ≤ greatestPeriodised
+
+-- a month's numbers, where no check refused it
+abbrev pub NumbersOf : MonthFile → Hourly → List ℕ → List ℕ → List ℕ → List ℤ → List ℕ → Type 0
+NumbersOf m made fixed refixed curveNumbers distributed periodised =
+    said (made .answer) ≡ accepted → HourlyMade m made fixed refixed curveNumbers distributed periodised
 
 -- hours of the month
 pub record Inside (file : List ℕ) (start hours : ℕ) : Type 0 where

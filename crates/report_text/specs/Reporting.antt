@@ -1,4 +1,4 @@
--- The promise of the report's text: from the bytes of a file to the bytes of its report in three buffers, or the refusal.
+-- The promise of the report's text: from the setting and the bytes of a file to the bytes of its report in three buffers, or the refusal.
 use mathlib.Core.Bool.{Bool, _&&_}
 use mathlib.Core.List.{List}
 use mathlib.Core.Path.{_≡_}
@@ -12,6 +12,8 @@ use Rattle.report_text.specs.declared.Reported.the-variants.{Lines, Refu
 use Rattle.rules.specs.Month.{monthOf, fileVerdict}
 use Rattle.rules.specs.MonthFile.{MonthFile}
 use Rattle.rules.specs.Refusals as R
+use Rattle.setting.specs.Asked.{asked}
+use Rattle.setting.specs.declared.Setting.{Setting}
 use Rattle.text.specs.Text.{atStart}
 
 -- how many bytes stand in each buffer
@@ -37,13 +39,16 @@ unfoldable pub rooms : ℕ → ℕ → ℕ → Bool
 rooms first rest parties = (leb firstRoom first && leb restRoom rest) && leb partiesRoom parties
 
 -- the refusals of the file, and last 16: a lent buffer shorter than its room
-unfoldable pub reportVerdict : List ℕ → ℕ → ℕ → ℕ → R.Verdict
-reportVerdict file first rest parties =
-    R.andThen (fileVerdict file) (R.unless (rooms first rest parties) R.wrongLength 0)
+unfoldable pub reportVerdict : R.Verdict → ℕ → ℕ → ℕ → R.Verdict
+reportVerdict ofFile first rest parties = R.andThen ofFile (R.unless (rooms first rest parties) R.wrongLength 0)
 
--- THE PROMISE: so many bytes at the start of each lent buffer are its part of the file's report, and nothing further on is touched; refused, nothing is
-pub record Promised (file first rest parties : List ℕ) (r : Reported) (first′ rest′ parties′ : List ℕ) : Type 0 where
-  pub answer : told r ≡ R.answer (reportVerdict file (length first) (length rest) (length parties)) (lengthsOf (monthOf file))
-  pub first-hours : first′ ≡ R.afterwards (verdict r) (atStart (firstPart (monthOf file)) first) first
-  pub other-hours : rest′ ≡ R.afterwards (verdict r) (atStart (restPart (monthOf file)) rest) rest
-  pub all-parties : parties′ ≡ R.afterwards (verdict r) (atStart (partiesPart (monthOf file)) parties) parties
+-- so many bytes at the start of each lent buffer are its part of a month's report, and nothing further on is touched; refused, nothing is
+pub record Answered (ofFile : R.Verdict) (m : MonthFile) (first rest parties : List ℕ) (r : Reported) (first′ rest′ parties′ : List ℕ) : Type 0 where
+  pub answer : told r ≡ R.answer (reportVerdict ofFile (length first) (length rest) (length parties)) (lengthsOf m)
+  pub first-hours : first′ ≡ R.afterwards (verdict r) (atStart (firstPart m) first) first
+  pub other-hours : rest′ ≡ R.afterwards (verdict r) (atStart (restPart m) rest) rest
+  pub all-parties : parties′ ≡ R.afterwards (verdict r) (atStart (partiesPart m) parties) parties
+
+-- THE PROMISE: that of the file's month, by the file's verdict under the setting
+abbrev pub Promised : Setting → List ℕ → List ℕ → List ℕ → List ℕ → Reported → List ℕ → List ℕ → List ℕ → Type 0
+Promised setting file = Answered (fileVerdict (asked setting) file) (monthOf file)

@@ -1,6 +1,7 @@
--- `hours::file_text` meets its contract: what is printed, one part after the other, is the report of the file. Assumes nothing.
+-- `hours::file_text` meets its contract: what is printed, one part after the other, is the final report of the file. Assumes nothing.
 use mathlib.Core.Path.{_∙_}
 use Rattle.hours.proofs.Texts.{alone-printed, lines-printed, refusal-printed}
+use Rattle.setting.specs.declared.Setting.the-variants.{Final}
 use Rattle.text.proofs.Stands.{line-stands}
 use borrow.Author.Needs.{needs}
 use Rattle.hours.proofs.file_text.Statement.{statement}
@@ -38,7 +39,7 @@ returns c =
     let start = reporting .before .before .before .before .before .before .before .before in
     let stands = line-stands (line .refusal-line .ensures) (search needs) in
     alone-printed (c .alone .ensures)
-    (stands .0, stands .1 ∙ refusal-printed _ _ _ _ (reporting .report .ensures) (start .pre) (refused .enum-told .given .1))
+    (stands .0, stands .1 ∙ refusal-printed Final _ _ _ _ (reporting .report .ensures) (start .pre) (refused .enum-told .given .1))
 
 same-length-4 : tie.Need-same-length-4
 same-length-4 c = search needs
@@ -52,7 +53,7 @@ same-length-6 c = search needs
 returns-2 : tie.Need-returns-2
 returns-2 c =
     let reporting = c .before .before .before .before .before .before .before .before .before in
-    lines-printed _ _ _ _ (reporting .report .ensures) (c .before .reported .given .1)
+    lines-printed Final _ _ _ _ (reporting .report .ensures) (c .before .reported .given .1)
 
 pub file-text-spec : {M : Type 1} → statement M
 file-text-spec =

@@ -1,9 +1,10 @@
--- `hours::input_text` meets its contract: what is printed is the report of the input, however its reading ended. Assumes nothing.
+-- `hours::input_text` meets its contract: what is printed is the final report of the input, however its reading ended. Assumes nothing.
 use mathlib.Core.Path.{refl}
 use Prim.Native.Nat.{zero-le}
 use Rattle.hours.proofs.Texts.{alone-printed, whole-printed}
 use Rattle.report_text.proofs.Reports.{too-long-line}
 use Rattle.rules.specs.HoursReport as T
+use Rattle.rules.specs.Setting.{final}
 use Rattle.text.proofs.Stands.{line-stands}
 use Rattle.standard_input.proofs.Endings.{too-long-text, failed-text}
 use borrow.Author.Needs.{needs}
@@ -44,7 +45,7 @@ returns : tie.Need-returns
 returns c =
     let after-file-text = c .before .before .before .before .before .before in
     let ending-told = after-file-text .before .before .before .before in
-    whole-printed _ (ending-told .enum-told .given .1) (after-file-text .file-text .ensures)
+    whole-printed final _ (ending-told .enum-told .given .1) (after-file-text .file-text .ensures)
 
 same-length-4 : tie.Need-same-length-4
 same-length-4 c = search needs
@@ -55,11 +56,11 @@ returns-2 c =
     let ending-told = line .before .before in
     let start = ending-told .before .before .before .before .before .before in
     let prints = alone-printed (c .alone .ensures) (line-stands (line .refusal-line .ensures) (search needs)) in
-    (prints .0, too-long-text T.hoursReport _ too-long-line (start .pre .0) (ending-told .enum-told2 .given .1) (prints .1))
+    (prints .0, too-long-text (T.hoursReport final) _ (too-long-line final) (start .pre .0) (ending-told .enum-told2 .given .1) (prints .1))
 
 returns-3 : tie.Need-returns-3
 returns-3 c =
-    (alone-printed (c .alone2 .ensures) (zero-le, refl) .0, failed-text T.hoursReport _ (c .before .enum-told3 .given .1))
+    (alone-printed (c .alone2 .ensures) (zero-le, refl) .0, failed-text (T.hoursReport final) _ (c .before .enum-told3 .given .1))
 
 pub input-text-spec : {M : Type 1} → statement M
 input-text-spec =

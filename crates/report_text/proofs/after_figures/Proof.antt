@@ -1,8 +1,9 @@
 -- `report_text::after_figures` meets its contract: refused after the reading, no room, or the lines. Assumes nothing.
-use mathlib.Core.Path.{refl, sym, _∙_}
-use Rattle.report_text.proofs.Making.{month-refused, no-refusal, known, distanced, counted}
-use Rattle.report_text.proofs.Reports.{roomy, too-short, refused-file}
+use mathlib.Core.Path.{refl, sym, _∙_, ap}
+use Rattle.report_text.proofs.Making.{known, distanced, counted}
+use Rattle.report_text.proofs.Reports.{roomy, too-short, refused-month, answered-as}
 use Rattle.month_sums.proofs.Writing.{turned-true}
+use Rattle.answer.specs.Said.{said}
 use Rattle.rules.specs.Refusals.{afterwards}
 use borrow.Author.Needs.{needs}
 use Rattle.report_text.proofs.after_figures.Statement.{statement}
@@ -19,7 +20,15 @@ has-room-requires c κs = search needs
 
 returns : tie.Need-returns
 unfolding afterwards
-returns c = record { answer = search (needs, too-short, no-refusal); first-hours = refl; other-hours = refl; all-parties = refl }
+returns c =
+    let after-has-room = c .before in
+    let done = ap said (after-has-room .before .enum-told .given .1) in
+    record {
+      answer = too-short _ _ _ _ done (after-has-room .has-room .ensures) (c .if1 .taken);
+      first-hours = refl;
+      other-hours = refl;
+      all-parties = refl;
+    }
 
 applied-requires : tie.Need-applied-requires
 applied-requires c κs = search needs
@@ -42,9 +51,7 @@ three-parts-requires c κs =
     )
 
 returns-2 : tie.Need-returns-2
-returns-2 c =
-    let start = c .before .before .before .before .before .before .before .before .before .before .before in
-    refused-file _ _ _ _ _ _ (month-refused _ _ (start .pre .0) (start .pre .1) (c .before .answer .given .1))
+returns-2 c = refused-month _ _ _ _ _ _ (ap said (c .before .answer .given .1))
 
 same-length : tie.Need-same-length
 same-length c = search needs
@@ -56,7 +63,10 @@ same-length-3 : tie.Need-same-length-3
 same-length-3 c = search needs
 
 returns-3 : tie.Need-returns-3
-returns-3 c = search needs
+returns-3 c =
+    let after-three-parts = c .before .before .before .before .before .before in
+    let after-enum-told = after-three-parts .before .before .before .before .before .before .before .before .before in
+    answered-as _ _ _ _ (sym (ap said (after-enum-told .enum-told .given .1))) (after-three-parts .three-parts .ensures)
 
 pub after-figures-spec : {M : Type 1} → statement M
 after-figures-spec =

@@ -58,7 +58,7 @@ returns c =
     let after-heading-and-hours = after-hours-from .before .before .before .before in
     let after-earlier = after-heading-and-hours .before .before in
     let start = after-earlier .before .before .before .before .before .before .before .before .before .before in
-    reported _ _ (start .pre .0 .read) (start .pre .0 .no-refusal) _ _ _ (start .pre .1 .1 .1) (after-heading-and-hours .heading-and-hours .ensures)
+    reported _ _ _ _ (start .pre .1 .1 .1) (after-heading-and-hours .heading-and-hours .ensures)
     (rest-part _ _ (start .pre .0 .read) (after-earlier .earlier .ensures) (after-hours-from .hours-from .ensures))
     (after-every-party .every-party .ensures)
 
