@@ -17,7 +17,7 @@ use Rattle.month_prepare.specs.declared.Made.{Made}
 use Rattle.month_prepare.proofs.Preparing.{still-as-many, lent-again}
 use Rattle.file_sections.specs.declared.Sections.{Sections}
 use Rattle.file_sections.proofs.AcceptedFile.{hours-are}
-use Rattle.report_figures.specs.Hourly.{HourlyAsked, HourlyMade, HourlyIs, MadeSo, PassedIs}
+use Rattle.report_figures.specs.Hourly.{HourlyAsked, HourlyMade, MadeSo, PassedIs}
 use Rattle.report_figures.specs.Passing.{SumsLent, MonthPassed}
 use Rattle.report_figures.specs.declared.Hourly as D
 use Rattle.report_figures.specs.declared.Passed.{Passed}
