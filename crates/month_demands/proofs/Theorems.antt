@@ -114,7 +114,12 @@ module _ (setting : Setting) (file : List ℕ) (lent : Outputs) where
           let at-the-start : place ≡ 0 = cc in
           of-the-lent (record { month = m; is-its-file = is; no-check-refuses = none; lent-wrong = w; is-16 = same; at-0 = at-the-start })
 
-      by-the-month : (m : MonthFile) → FileOf file m → (v : Verdict) → first (monthChecks (asked setting) m) ≡ v → andThen v (last m) ≡ refused r place → RefusalApplies setting file lent r place
+      by-the-month :
+          (m : MonthFile)
+          → FileOf file m → (v : Verdict)
+          → first (monthChecks (asked setting) m) ≡ v
+          → andThen v (last m) ≡ refused r place
+          → RefusalApplies setting file lent r place
       unfolding andThen
       by-the-month m is accepted f e = by-the-lent m is (accepted-exactly (monthChecks (asked setting) m) .0 f) (right m) refl e
       by-the-month m is (refused s q) f e =

@@ -58,8 +58,8 @@ pub record NoRefusalApplies (setting : Setting) (file : List ℕ) (lent : Output
   pub no-check-refuses : NoneRefuses (monthChecks (asked setting) month)
   pub lent-right : placesRight (P month) lent ≡ true
 
--- "The file is read first"; W1: 17 "after the file is read and before 6"; "Then 6; then the fixed hours ..": the file is that of a well-formed month, and of the month's checks in their order this is the
--- first that refuses
+-- "The file is read first"; W1: 17 "after the file is read and before 6"; "Then 6; then the fixed hours ..": the file is that of a well-formed month, and of the
+-- month's checks in their order this is the first that refuses
 pub record MonthRefuses (setting : Setting) (file : List ℕ) (r : Refusal) (place : ℕ) : Type 0 where
   pub month : MonthFile
   pub is-its-file : FileOf file month

@@ -20,7 +20,7 @@ use Rattle.setting.specs.Asked.{asked}
 use Rattle.setting.specs.declared.Setting.{Setting}
 use Rattle.rules.specs.Month.{monthOf, verdictOn, fileVerdict}
 use Rattle.rules.specs.MonthFile.{H, P}
-use Rattle.rules.specs.Refusals.{outOfRange, wrongLength, Verdict, accepted, refused, unless, andThen, afterwards}
+use Rattle.rules.specs.Refusals.{outOfRange, wrongLength, Verdict, refused, unless, andThen, afterwards}
 use Rattle.rules.proofs.Refusals.{both-accept, unless-exactly}
 
 module _ (setting : Setting) (file : List ℕ) (start hours : ℕ) (d : List ℤ) (p : List ℕ) (x l : List ℤ) where
@@ -38,7 +38,11 @@ module _ (setting : Setting) (file : List ℕ) (start hours : ℕ) (d : List ℤ
       record { answer = is; distributed = rw e refl; periodised = rw e refl; differences = rw e refl; losses = rw e refl }
 
   -- where the file itself is refused, nothing more is asked
-  pub refused-file : {r : Answer} {v : Refusal} {place : ℕ} → r ≡ Refused v place → fileVerdict (asked setting) file ≡ refused (named v) place → Promised setting file start hours r d p x l d p x l
+  pub refused-file :
+      {r : Answer} {v : Refusal} {place : ℕ}
+      → r ≡ Refused v place
+      → fileVerdict (asked setting) file ≡ refused (named v) place
+      → Promised setting file start hours r d p x l d p x l
   unfolding runVerdict andThen
   refused-file {r} {v} {place} e is =
       refused-call e (ap said e ∙ sym (ap (λ (u : Verdict). andThen u verdict-asked) is))

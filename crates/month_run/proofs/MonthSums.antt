@@ -36,7 +36,8 @@ there figure nothing hours n t i b l =
     ∙ ap (λ (h : ℕ). figure h i) (zero-add t)
 
 -- the run of all hours of an accepted month
-module _ {setting : Setting} {file : List ℕ} {d₀ : List ℤ} {p₀ : List ℕ} {x₀ l₀ d : List ℤ} {p : List ℕ} {x l : List ℤ} (r : Promised setting file 0 (H (monthOf file)) Done d₀ p₀ x₀ l₀ d p x l) where
+module _ {setting : Setting} {file : List ℕ} {d₀ : List ℤ} {p₀ : List ℕ} {x₀ l₀ d : List ℤ} {p : List ℕ} {x l : List ℤ}
+    (r : Promised setting file 0 (H (monthOf file)) Done d₀ p₀ x₀ l₀ d p x l) where
   abbrev m : MonthFile
   m = monthOf file
 

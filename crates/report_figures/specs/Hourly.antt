@@ -10,6 +10,8 @@ use Rattle.apportion.specs.Filled.{Filled}
 use Rattle.file_sections.specs.Walk.{Accepted}
 use Rattle.file_sections.specs.declared.Sections.{Sections}
 use Rattle.report_figures.specs.declared.Hourly as D
+use Rattle.month_prepare.specs.Checks.{Making, MadeIs}
+use Rattle.month_prepare.specs.declared.Made.{Made}
 use Rattle.month_series.specs.Series.{residualAt}
 use Rattle.setting.specs.Asked.{asked}
 use Rattle.setting.specs.declared.Setting.{Setting}
@@ -47,3 +49,11 @@ pub record HourlyMade (m : MonthFile) (r : D.Hourly) (fixed refixed curveNumbers
 pub record HourlyIs (setting : Setting) (m : MonthFile) (r : D.Hourly) (fixed refixed curveNumbers : List ℕ) (distributed : List ℤ) (periodised : List ℕ) : Type 0 where
   pub verdict : said (r .answer) ≡ monthVerdict (asked setting) m
   pub made : said (r .answer) ≡ R.accepted → HourlyMade m r fixed refixed curveNumbers distributed periodised
+
+-- what the hours are passed with: all that is made before them of a month that nothing refuses so far
+pub record MadeSo (m : MonthFile) (r : Made) (fixed refixed curveNumbers beginnings : List ℕ) : Type 0 where
+  pub made : said (r .answer) ≡ R.accepted → Making m r fixed refixed curveNumbers beginnings
+
+-- and what they bring to it, under whatever setting it was judged by: refused then, or 14 by hour, or the numbers
+pub record PassedIs (m : MonthFile) (made : Made) (r : D.Hourly) (fixed refixed curveNumbers beginnings : List ℕ) (distributed : List ℤ) (periodised : List ℕ) : Type 0 where
+  pub under : (setting : Setting) → MadeIs setting m made fixed refixed curveNumbers beginnings → HourlyIs setting m r fixed refixed curveNumbers distributed periodised

@@ -2,7 +2,7 @@
 use Prim.Native.Nat.{suc, _+_, _≤_}
 use native.Mathlib.Omega.{arith}
 use Rattle.month_prepare.proofs.Preparing.{so-many, few-hours}
-use Rattle.report_figures.proofs.Making.{sums-lent, part-enough, as-lent-again}
+use Rattle.report_figures.proofs.Making.{sums-lent, part-enough, as-lent-again, so-made}
 use Rattle.rules.specs.Limits.{mostHours}
 use borrow.Author.Needs.{needs}
 use Rattle.report_figures.proofs.all_hours.Statement.{statement}
@@ -77,7 +77,7 @@ pass-made-requires c κs =
     let start = begins asks in (
       start .pre .accepted,
       (
-        as-lent-again (made .make .ensures) (start .args .s .heading .hours + 1)
+        so-made (made .make .ensures) (start .args .s .heading .hours + 1)
             (places asks .beginning-places .result) (so-many (suc mostHours) (places asks .beginning-places .ensures)) (few asks) (lent .beginnings2 .given),
         sums-lent (start .pre),
       ),
@@ -99,7 +99,14 @@ same-length-5 : tie.Need-same-length-5
 same-length-5 c = c .before .periodised-wh .given
 
 returns : tie.Need-returns
-returns c = c .before .before .before .pass-made .ensures
+returns c =
+    let passed = c .before .before .before in
+    let lent = backs (passed .before .before .before .before) in
+    let made = makes lent in
+    let asks = made .before .before in
+    passed .pass-made .ensures .under _
+    (as-lent-again (made .make .ensures) (begins asks .args .s .heading .hours + 1)
+    (places asks .beginning-places .result) (so-many (suc mostHours) (places asks .beginning-places .ensures)) (few asks) (lent .beginnings2 .given))
 
 pub all-hours-spec : {M : Type 1} → statement M
 all-hours-spec =

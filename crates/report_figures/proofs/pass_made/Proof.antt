@@ -24,8 +24,7 @@ none-requires c κs = search needs
 
 returns : tie.Need-returns
 returns c =
-    let start = c .before .before .before .before .before .before .before .before .before in
-    not-made (start .pre .1 .0) (c .before .enum-told2 .given .1) _ _ _
+    not-made (c .before .enum-told2 .given .1) _ _ _
 
 window-places-requires : tie.Need-window-places-requires
 window-places-requires c κs = search needs
@@ -62,7 +61,7 @@ returns-2 : tie.Need-returns-2
 returns-2 c =
     let after-pass-hours = c .before .before .before .before .before in
     let passed = passes (after-pass-hours .before .before .before .before .before) in
-    numbers-made (begins passed .pre .1 .0) (passed .enum-told .given .1) (after-pass-hours .pass-hours .ensures .0)
+    numbers-made (passed .enum-told .given .1) (after-pass-hours .pass-hours .ensures .0)
 
 pub pass-made-spec : {M : Type 1} → statement M
 pass-made-spec =
