@@ -7,8 +7,10 @@
 use answer::Refusal;
 use libc::STDIN_FILENO;
 ghost use lib.ListN.{length};
+ghost use mathlib.Core.Path.{_≡_};
 ghost use Prim.Native.Nat.{_≤_};
-ghost use Rattle.standard_input.specs.Reading.{PieceWithin, Full, ended, endedText};
+ghost use Rattle.rules.specs.Limits.{longestFile};
+ghost use Rattle.standard_input.specs.Reading.{PieceWithin, Full, FullyRead, ended, endedText};
 ghost use Rattle.text.specs.Text.{LinePut, longestRefusalLine};
 
 // What one read gives: bytes at the start of the part it was lent, the end of the input, or a failure.
@@ -88,6 +90,17 @@ pub fn read_month(buffer: &mut [u8]) -> Input
         filled: filled,
         ending: ending,
     }
+}
+
+// The bytes that were read, at the start of a buffer for the longest file: what a program then makes its text of.
+pub fn bytes_read<'a>(buffer: &'a [u8], input: Input) -> &'a [u8]
+    requires { ⌜ input .filled ≤ length (now buffer) ⌝ }
+    requires { ⌜ Full (input .ending) (input .filled) (length (now buffer)) ⌝ }
+    requires { ⌜ length (now buffer) ≡ longestFile ⌝ }
+    ensures { λ file. ⌜ FullyRead (input .ending) (now file) ⌝ }
+{
+    let filled = input.filled;
+    &buffer[0..filled]
 }
 
 // "An empty or too long file is refused before all else, place 0": the line of that refusal at the start of `out`, and its length, for the programs. An input that

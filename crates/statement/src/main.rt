@@ -51,10 +51,9 @@ fn print_input(ending: Ending, file: &[u8])
 fn main() {
     let mut buffer = io::large_buffer();
     let input = standard_input::read_month(&mut buffer);
-    let filled = input.filled;
     let ending = input.ending;
     match ending {
         Ending::Failed => complain(b"statement: standard input cannot be read\n"),
-        _ => print_input(ending, &buffer[0..filled]),
+        _ => print_input(ending, standard_input::bytes_read(&buffer, input)),
     }
 }
