@@ -40,7 +40,8 @@ pub alone-printed :
     → Prints text p first rest parties
 alone-printed e stands = rw e (record { first-within = stands .0; rest-within = zero-le; parties-within = zero-le }, append-nil _ ∙ append-nil _ ∙ stands .1)
 
-module _ (setting : Setting) (file first rest parties : List ℕ) {first′ rest′ parties′ : List ℕ} {reported : Reported} (p : Promised setting file first rest parties reported first′ rest′ parties′) where
+module _ (setting : Setting) (file first rest parties : List ℕ) {first′ rest′ parties′ : List ℕ} {reported : Reported}
+    (p : Promised setting file first rest parties reported first′ rest′ parties′) where
   abbrev m : MonthFile
   m = monthOf file
 

@@ -17,7 +17,8 @@ use Rattle.rules.specs.MonthFile.{recordChecks, isEnd, closed, onward, r
 use Rattle.rules.specs.Month.{partyAt, flowsAt, readingAt, priceAt, shareOf, monthW, fixedWh, appliedFlows, appliedWh, curve, distributed, weightOf, S, readingFigure, figureFor}
 use Rattle.rules.specs.Month.{periodised, allPeriodised, loss, difference, amount, monthDistributed, monthPeriodised, monthLoss, monthDifference, monthAmount, invoice, isEstimated}
 use Rattle.rules.specs.Month.{estimatedHours, refixedVerdict, hourVerdict, curveVerdict, readingVerdict, periodisedVerdict, monthChecks, monthVerdict}
-use Rattle.rules.specs.Statement.{digitsIn, decimal, signedDecimal, digitsOfWidth, newline, refusalLine, provisionalEnding, headingText, headingLine, columnsLine, partyLine, totalLine, statementLines}
+use Rattle.rules.specs.Statement.{digitsIn, decimal, signedDecimal, digitsOfWidth, newline, refusalLine, provisionalEnding, headingText}
+use Rattle.rules.specs.Statement.{headingLine, columnsLine, partyLine, totalLine, statementLines}
 use Rattle.rules.specs.Statement.{judgedStatement, answeredStatement, statement}
 use Rattle.rules.specs.Demands.{exactShare}
 use Rattle.rules.specs.HoursReport.{statusWord, statusesText, seriesText, partsText, allDistributed, hourLine, distanceAfter, distanceAt, smaller, larger, smallest, largest}

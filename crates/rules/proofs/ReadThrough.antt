@@ -194,7 +194,8 @@ stopped {setting} {m} {n} {bytes} at-once =
     record { passed = []; rest = bytes; split = refl; all-pass = tt; stop = subst (λ (k : ℕ). Stop setting m k bytes) (omega arith) at-once }
 
 -- or one more record passes
-one-passes : (setting : Setting) (m : MonthFile) (n : ℕ) (bytes : List ℕ) (r : Record) (left : List ℕ) → bytes ≡ recordBytes r ++ left → Passes m n r → Course setting (with m r) (suc n) left → Course setting m n bytes
+one-passes : (setting : Setting) (m : MonthFile) (n : ℕ) (bytes : List ℕ) (r : Record) (left : List ℕ) → bytes ≡ recordBytes r ++ left → Passes m n r
+    → Course setting (with m r) (suc n) left → Course setting m n bytes
 unfolding bytesOfAll withAll
 one-passes setting m n bytes r left e p next =
     record {

@@ -12,7 +12,8 @@ use Rattle.rules.specs.MonthFile.{MonthFile, H, P, nothingYet, readMonth
 use Rattle.rules.specs.Periodised.{periodisedFigure}
 use Rattle.rules.specs.Reconciliation.{gridLoss, lossOf, differenceOf, amountMillionths, invoiceOre}
 use Rattle.rules.specs.Record.{Party, Reading}
-use Rattle.rules.specs.Refusals.{notRefixed, wOutOfRange, curveTooLarge, nothingToFollow, periodisedTooLarge, wrongLength, Verdict, refused, Answer, given, refusal, unless, andThen, first, inTurn}
+use Rattle.rules.specs.Refusals.{notRefixed, wOutOfRange, curveTooLarge, nothingToFollow, periodisedTooLarge, wrongLength}
+use Rattle.rules.specs.Refusals.{Verdict, refused, Answer, given, refusal, unless, andThen, first, inTurn}
 use Rattle.rules.specs.Setting.{Setting, provisional, isProvisional}
 use Rattle.rules.specs.Words.{sum, sumℤ, count, within}
 

@@ -35,7 +35,8 @@ use Rattle.text.proofs.Puts.{put-then, put-as, put-length, put-at-start}
 
 -- THE LINES ONE AFTER THE OTHER
 module _ (file : List ℕ) (s : Sections) {sums : Sums} (settled : Settled file s sums) {estimated : ℕ} (counted : estimated ≡ estimatedHours (monthOf file)) where
-  module _ {before out₁ : List ℕ} {end₁ : ℕ} (h : Put (T.headingText (s .heading .area) (s .heading .year) (s .heading .month) (s .heading .hours) (s .heading .parties) estimated (s .refixed)) before 0 out₁ end₁)
+  module _ {before out₁ : List ℕ} {end₁ : ℕ}
+      (h : Put (T.headingText (s .heading .area) (s .heading .year) (s .heading .month) (s .heading .hours) (s .heading .parties) estimated (s .refixed)) before 0 out₁ end₁)
       (h-within : end₁ ≤ 0 + headingRoom) where
     pub room-for-parties : statementRoom ≤ length before → end₁ + mostParties * columnsRoom ≤ length out₁
     room-for-parties room = omega (arith, put-length h)
@@ -100,7 +101,8 @@ module _ (setting : Setting) (file : List ℕ) (s : Sections) (ok : Accepted fil
       }
 
 -- a refused file: nothing is written
-pub refused-file : (setting : Setting) (file : List ℕ) (x : Refusal) (place : ℕ) (old : List ℕ) → fileVerdict (asked setting) file ≡ R.refused (named x) place → Promised setting file old (S.Refused x place) old
+pub refused-file : (setting : Setting) (file : List ℕ) (x : Refusal) (place : ℕ) (old : List ℕ) → fileVerdict (asked setting) file ≡ R.refused (named x) place
+    → Promised setting file old (S.Refused x place) old
 unfolding R.answer R.afterwards textVerdict R.andThen
 refused-file setting file x place old e =
     let v : textVerdict setting file (length old) ≡ R.refused (named x) place =
