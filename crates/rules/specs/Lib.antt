@@ -1,4 +1,5 @@
--- Document 01 as definitions, to be read beside it in this order. Each stands under the sentence that it renders.
+-- Document 01, and the requests of 02 that have landed, as definitions, to be read beside them in this order. Each stands under the sentence that it renders (of a
+-- request, with its number).
 -- An hour, a party, a reading and a record are numbered from 0; a series is a function from such a number to a figure.
 --
 -- THE SIGNS, for a reader without this language:

@@ -9,7 +9,7 @@ use mir.Syntax.{w64}
 use mir.Val.{SFits, toZ, ofZ}
 use Rattle.rules.specs.Statement.{decimal, signedDecimal, digitsOfWidth, newline, provisionalEnding, headingText, columnsLine}
 use Rattle.rules.specs.Words.{ascii}
-use Rattle.statement_lines.specs.Halves.{areaMonth, counted, ending, nameEnergies, resulting}
+use Rattle.statement_lines.specs.Parts.{areaMonth, counted, ending, nameEnergies, resulting}
 use Rattle.text.specs.Text.{Put}
 use Rattle.text.proofs.Puts.{put-then, put-pair, put-as}
 

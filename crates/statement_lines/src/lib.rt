@@ -9,7 +9,7 @@ use text::put_word_width;
 ghost use Prim.Native.Nat.{_+_, _≤_};
 ghost use lib.ListN.{length};
 ghost use Rattle.rules.specs.Statement.{headingText, columnsLine};
-ghost use Rattle.statement_lines.specs.Halves.{areaMonth, counted, ending, nameEnergies, resulting};
+ghost use Rattle.statement_lines.specs.Parts.{areaMonth, counted, ending, nameEnergies, resulting};
 ghost use Rattle.statement_lines.specs.Rooms.{areaMonthRoom, countsRoom, endingRoom, headingRoom, nameEnergiesRoom, resultsRoom, columnsRoom};
 ghost use Rattle.text.specs.Text.{Put, longestName};
 

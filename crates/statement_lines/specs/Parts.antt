@@ -1,4 +1,4 @@
--- The halves of the statement's lines, and the heading line's ending, as one function puts each (01 "The statement program"; W1). The whole lines stand in the rules.
+-- The parts of the statement's lines, as one function puts each (01 "The statement program"; 02, W1). The whole lines stand in the rules.
 use mathlib.Core.List.{List, _++_}
 use Prim.Native.Nat.{ℕ}
 use lib.IntN.{ℤ}
