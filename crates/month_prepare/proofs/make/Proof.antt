@@ -3,11 +3,6 @@ use Rattle.month_prepare.proofs.Making.{not-begun, series-refuse, curve
 use borrow.Author.Needs.{needs}
 use Rattle.month_prepare.proofs.make.Statement.{statement}
 use Rattle.month_prepare.proofs.make.Tie as tie
-use Rattle.month_prepare.proofs.make.Reads as reads
-use Rattle.month_prepare.proofs.make.Lts as lts
-use Rattle.month_prepare.proofs.both_series.Reads as both-series-reads
-use Rattle.month_prepare.proofs.curve_and_readings.Reads as curve-and-readings-reads
-use Rattle.month_prepare.proofs.weigh.Reads as weigh-reads
 
 abbrev begins : tie.After-weigh → tie.Start
 begins c = c .before .before .before .before .before .before

@@ -6,13 +6,6 @@ use Rattle.month_prepare.proofs.Weighing.{places-enough, read-again, fe
 use borrow.Author.Needs.{needs}
 use Rattle.month_prepare.proofs.weigh.Statement.{statement}
 use Rattle.month_prepare.proofs.weigh.Tie as tie
-use Rattle.month_prepare.proofs.weigh.Reads as reads
-use Rattle.month_prepare.proofs.weigh.Lts as lts
-use Rattle.distribute.proofs.Carries.start.Reads as start-reads
-use Rattle.distribute.proofs.w_in_range.Reads as w-in-range-reads
-use Rattle.month_prepare.proofs.nothing_carried.Reads as nothing-carried-reads
-use Rattle.month_prepare.proofs.party_places.Reads as party-places-reads
-use Rattle.month_series.proofs.shares.Reads as shares-reads
 
 abbrev asks : tie.After-shares2 → tie.After-refixed-or-provisional
 asks c = c .before .before .before .before
