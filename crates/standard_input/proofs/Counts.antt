@@ -1,14 +1,15 @@
 -- Counts within what was lent: of a read that gave bytes, and of all that was read so far.
 use mathlib.Core.Bool.{true}
 use mathlib.Core.List.{List}
-use mathlib.Core.Path.{_≡_, sym, _∙_, subst}
+use mathlib.Core.Path.{_≡_, sym, _∙_, ap, subst}
 use Prim.Native.Nat.{ℕ, _+_, _-_, _≤_, _<_}
+use native.Mathlib.Nat.{sub-zero}
 use native.Mathlib.Omega.{arith}
 use borrow.Author.Tests.{ltb-true}
 use borrow.Rule.Slice.PartMut.{midOf, putMid, mid-len}
 use lib.Dec.{T}
 use lib.IntN.{ℤ, pos, negsuc, natAbs}
-use lib.ListN.{length}
+use lib.ListN.{length, take}
 use lib.Signed.{ltZ, nonNeg}
 use mir.Facts.{toZ-ofZ, fits-natAbs}
 use mir.Syntax.{w64}
@@ -74,7 +75,11 @@ full Whole so-far at-end = (so-far .bound, tt)
 full TooLong so-far at-end = (so-far .bound, omega (arith, so-far .bound, at-end))
 full Failed so-far at-end = (so-far .bound, tt)
 
--- and so is the part of it that is handed on, of a buffer for the longest file
+-- what is handed on is the start of the buffer
+pub filled-part : (buffer : List ℕ) (filled : ℕ) → midOf 0 (filled - 0) buffer ≡ take filled buffer
+filled-part buffer filled = ap (λ (n : ℕ). take n buffer) (sub-zero filled)
+
+-- and, of a buffer for the longest file, full where the input is told as too long
 pub fully-read :
     (ending : Ending) (buffer : List ℕ) {filled : ℕ}
     → (filled ≤ length buffer) × Full ending filled (length buffer)

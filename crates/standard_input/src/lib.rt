@@ -6,7 +6,7 @@
 // programs. Each program writes by itself: of `io::write_all` nothing is promised, so nothing could be promised of a public function that calls it.
 use answer::Refusal;
 use libc::STDIN_FILENO;
-ghost use lib.ListN.{length};
+ghost use lib.ListN.{length, take};
 ghost use mathlib.Core.Path.{_≡_};
 ghost use Prim.Native.Nat.{_≤_};
 ghost use Rattle.rules.specs.Limits.{longestFile};
@@ -97,7 +97,8 @@ pub fn bytes_read<'a>(buffer: &'a [u8], input: Input) -> &'a [u8]
     requires { ⌜ input .filled ≤ length (now buffer) ⌝ }
     requires { ⌜ Full (input .ending) (input .filled) (length (now buffer)) ⌝ }
     requires { ⌜ length (now buffer) ≡ longestFile ⌝ }
-    ensures { λ file. ⌜ FullyRead (input .ending) (now file) ⌝ }
+    ensures bytes { λ file. ⌜ now file ≡ take (input .filled) (now (buffer .entry)) ⌝ }
+    ensures full { λ file. ⌜ FullyRead (input .ending) (now file) ⌝ }
 {
     let filled = input.filled;
     &buffer[0..filled]
