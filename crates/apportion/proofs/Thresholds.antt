@@ -14,7 +14,7 @@ use lib.Dec.{ltb}
 use lib.ListN.{getD}
 use Rattle.apportion.specs.Tests.{belowNumber, sameNumber, beforeNumber}
 use Rattle.apportion.specs.Threshold.{howManyAbove, howManyAt, Threshold, Cut}
-use Rattle.rules.specs.Distributed.{rank, oneEach}
+use Rattle.rules.specs.LargestRemainder.{rank, oneEach}
 use Rattle.rules.specs.Words.{sum, count, at}
 use Rattle.rules.proofs.LargestRemainder.{less, less-cases, less-one, less-zero, less-at-most-one, less-same, before, before-is, tie-break-orders}
 use Rattle.rules.proofs.Sums.{sum-cong, sum-add, sum-le, sum-lt, sum-split}

@@ -4,7 +4,7 @@ use mathlib.Core.Path.{_≡_}
 use Prim.Native.Nat.{ℕ}
 use Rattle.apportion.specs.Filled.{Filled}
 use Rattle.apportion.proofs.Arrays.{filled-once}
-use Rattle.rules.specs.Distributed.{oneEach}
+use Rattle.rules.specs.LargestRemainder.{oneEach}
 use Rattle.rules.specs.Words.{at}
 
 -- `one_each`

@@ -5,7 +5,7 @@ ghost use Prim.Native.Nat.{_≤_};
 ghost use Rattle.apportion.specs.Filled.{Filled};
 ghost use Rattle.apportion.specs.Tests.{belowNumber, sameNumber, beforeNumber};
 ghost use Rattle.apportion.specs.Threshold.{howManyAbove, Threshold, Cut};
-ghost use Rattle.rules.specs.Distributed.{oneEach};
+ghost use Rattle.rules.specs.LargestRemainder.{oneEach};
 ghost use Rattle.rules.specs.Limits.{mostParties};
 ghost use Rattle.rules.specs.Words.{at};
 

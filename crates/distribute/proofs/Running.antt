@@ -1,10 +1,11 @@
 -- The running sums depend on the shares of the n parties alone: a list of 64 places serves for one of n.
 use mathlib.Core.Path.{_≡_, _∙_, ap, ap₂}
 use Prim.Native.Nat.{ℕ, _+_, _-_, _*_, _/_, _%_, _<_}
-use Rattle.apportion.proofs.Order.{one-each-cong}
-use Rattle.rules.specs.Distributed.{roundedDown, remainder, leftOver, oneEach, runningSum}
+use Rattle.rules.specs.Distributed.{roundedDown, remainder, leftOver, runningSum}
+use Rattle.rules.specs.LargestRemainder.{oneEach}
 use Rattle.rules.specs.Flows.{W}
 use Rattle.rules.proofs.Sums.{sum-cong}
+use Rattle.rules.proofs.LargestRemainder.{one-each-cong}
 
 module _ (n : ℕ) (f g : ℕ → ℕ) (same : (k : ℕ) → k < n → f k ≡ g k) where
   w-same : W n f ≡ W n g

@@ -11,7 +11,8 @@ use lib.ListN.{length, replicate, length-replicate}
 use Rattle.apportion.specs.Filled.{Filled}
 use Rattle.distribute.specs.Good.{Startable, Started, extraAfter}
 use Rattle.apportion.proofs.Arrays.{filled-as, all-nothing}
-use Rattle.rules.specs.Distributed.{remainder, leftOver, oneEach, rank}
+use Rattle.rules.specs.Distributed.{remainder, leftOver}
+use Rattle.rules.specs.LargestRemainder.{oneEach, rank}
 use Rattle.rules.specs.Flows.{W}
 use Rattle.rules.specs.Limits.{mostParties}
 use Rattle.rules.specs.Words.{sum, at}

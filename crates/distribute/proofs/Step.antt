@@ -12,14 +12,14 @@ use Rattle.apportion.specs.Filled.{Filled}
 use Rattle.distribute.specs.Good.{Ready, Next, shareIn, extraAfter, figureAfter}
 use Rattle.distribute.specs.Parts.{grownBy, quotientBy, restBy, DividedBy, figureBy, SmallParts}
 use Rattle.apportion.proofs.Arrays.{filled-as}
-use Rattle.apportion.proofs.Order.{one-each-cong}
-use Rattle.rules.specs.Distributed.{roundedDown, remainder, leftOver, oneEach, runningSum}
+use Rattle.rules.specs.Distributed.{roundedDown, remainder, leftOver, runningSum}
+use Rattle.rules.specs.LargestRemainder.{oneEach}
 use Rattle.rules.specs.Flows.{W}
 use Rattle.rules.specs.Limits.{greatestW}
 use Rattle.rules.specs.Words.{sum, at}
 use Rattle.rules.proofs.Demand3.{running-adds-up}
 use Rattle.rules.proofs.Integers.{minus-cong}
-use Rattle.rules.proofs.LargestRemainder.{one-at-most}
+use Rattle.rules.proofs.LargestRemainder.{one-at-most, one-each-cong}
 use Rattle.rules.proofs.Periodised.{carry}
 use Rattle.rules.proofs.Sums.{sum-add, sum-cong, sum-le, sum-member}
 

@@ -8,7 +8,7 @@ use Rattle.distribute.specs.declared.Carries.{Carries}
 use Rattle.apportion.specs.Filled.{Filled}
 use Rattle.distribute.specs.Good.{Good, Started, Next, shareIn, extraAfter, figureAfter}
 use Rattle.apportion.proofs.Arrays.{filled-once}
-use Rattle.rules.specs.Distributed.{remainder, leftOver, oneEach}
+use Rattle.rules.specs.Distributed.{remainder, leftOver}
 use Rattle.rules.specs.Flows.{W}
 use Rattle.rules.specs.Words.{at}
 

@@ -7,7 +7,8 @@ use lib.IntN.{ℤ, pos, _-ℤ_}
 use lib.ListN.{length}
 use Rattle.distribute.specs.declared.Carries.{Carries}
 use Rattle.apportion.specs.Filled.{Filled}
-use Rattle.rules.specs.Distributed.{remainder, leftOver, oneEach, runningSum}
+use Rattle.rules.specs.Distributed.{remainder, leftOver, runningSum}
+use Rattle.rules.specs.LargestRemainder.{oneEach}
 use Rattle.rules.specs.Flows.{W}
 use Rattle.rules.specs.Limits.{mostParties, greatestW, greatestResidual}
 use Rattle.rules.specs.Words.{at}

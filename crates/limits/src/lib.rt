@@ -42,6 +42,9 @@ pub const GREATEST_PERIODISED_WH: u32 = 2_000_000_000;
 // "Price -5,000,000..5,000,000.", in øre per MWh
 pub const GREATEST_PRICE_ORE: i64 = 5_000_000;
 
+// "Amount = difference x price, exact, in millionths of an øre" (Reconciliation): so many make one
+pub const MILLIONTHS_IN_ORE: u64 = 1_000_000;
+
 // "The service takes E and the weights alone, 1 to 8,784 hours of them." (Periodised consumption)
 pub const MOST_WEIGHTS: usize = 8_784;
 

@@ -2,13 +2,15 @@
 use Rattle.rules.specs.Words.{sum, sumℤ, count, figures, at, within, atMost, withinℤ, joined, ascii}
 use Rattle.rules.specs.Refusals.{unless, andThen, first, inTurn, answer, afterwards}
 use Rattle.rules.specs.Flows.{residual, silentIsZero, flowsInRange, judgedBy, judged, verdictOf, residualWh, W, curveNumber, appliedSeries}
-use Rattle.rules.specs.Distributed.{roundedDown, remainder, leftOver, comesBefore, rank, oneEach, runningSum, runningAfter, distributedFigure}
+use Rattle.rules.specs.Distributed.{roundedDown, remainder, leftOver, runningSum, runningAfter, distributedFigure}
+use Rattle.rules.specs.LargestRemainder.{comesBefore, rank, oneEach}
 use Rattle.rules.specs.Periodised.{sumSoFar, periodisedFigure}
-use Rattle.rules.specs.Reconciliation.{gridLoss, lossOf, differenceOf, amountMillionths, invoiceOre}
+use Rattle.rules.specs.Reconciliation.{gridLoss, lossOf, differenceOf, amountMillionths}
+use Rattle.rules.specs.Invoice.{oreDown, oreRemainder, downOf, remainderOf, missingOre, invoiceOre}
 use Rattle.rules.specs.Gln.{allDigits, digitFromRight, weightFromRight, weightedSum, validGln, digitsOnto, rises}
 use Rattle.rules.specs.Services.{atℤ, sameℤ, checkAt, eachAt, checkAtℤ, eachAtℤ, flowsOf, silentCheck, hourCheck, residualChecks, residualAt, residualFigures, curveFits, curveChecks}
 use Rattle.rules.specs.Services.{curveAt, curveFigures, distributionChecks, distributedAt, distributionFigures, periodisationChecks, periodisationFigures, distributedFits}
-use Rattle.rules.specs.Services.{reconciliationChecks, reconciliationLoss, reconciliationDifferences, amountAt, reconciliationAmounts}
+use Rattle.rules.specs.Services.{reconciliationChecks, reconciliationLoss, reconciliationDifferences, amountAt, reconciliationAmounts, invoiceChecks, invoiceFigures}
 use Rattle.rules.specs.Record.{layouts, widthsIn, fieldWidths, totalOf, bodyLength, known, numberOnto, bytesOf, signed, unsigned, cutInto, field, numberAt, signedAt, headingFrom}
 use Rattle.rules.specs.Record.{flowsFrom, readingFrom, neverAsked, recordFrom, kindAt, recordAt, fieldBytes, inWidths, hourFields, fieldsOf, recordBytes, nothingYet, H, P, with}
 use Rattle.rules.specs.Record.{due, risesAfter, headingInRange, hourInRange, checks, readAlone, writeVerdict, written}
@@ -33,7 +35,7 @@ unfolding residual silentIsZero flowsInRange judgedBy judged verdictOf residualW
 hours-1 = tt
 
 unfoldable pub hours-2 : Unit {0}
-unfolding differenceOf amountMillionths invoiceOre
+unfolding differenceOf amountMillionths oreDown oreRemainder downOf remainderOf missingOre invoiceOre
 hours-2 = tt
 
 unfoldable pub hours : Unit {0}
@@ -61,7 +63,7 @@ unfolding curveFigures distributionChecks distributedAt distributionFigures peri
 services-2 = tt
 
 unfoldable pub services-3 : Unit {0}
-unfolding reconciliationLoss reconciliationDifferences amountAt reconciliationAmounts
+unfolding reconciliationLoss reconciliationDifferences amountAt reconciliationAmounts invoiceChecks invoiceFigures
 services-3 = tt
 
 unfoldable pub services : Unit {0}

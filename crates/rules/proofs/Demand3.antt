@@ -4,19 +4,20 @@
 use mathlib.Core.Logic.{_⊎_, inl, inr, ⊎-elim}
 use mathlib.Core.Path.{_≡_, sym, _∙_, ap, ap₂}
 use Prim.Native.Nat.{ℕ, suc, _+_, _-_, _*_, _/_, _≤_, _<_}
-use native.Mathlib.Nat.{le-trans, div-add-mod', mod-lt, le-of-mul-le-mul-right, lt-of-mul-lt-mul-right, le-of-lt, eq-zero-or-pos, eq-or-lt-of-le}
+use native.Mathlib.Nat.{div-add-mod', mod-lt, le-of-mul-le-mul-right, lt-of-mul-lt-mul-right, le-of-lt, eq-zero-or-pos, eq-or-lt-of-le}
 use native.Mathlib.Nat.{mul-le-mul-right, mul-add, mul-zero, div-eq-of-lt-le, add-zero, zero-add, zero-mul}
 use native.Mathlib.Omega.{arith}
 use lib.Dec.{le→leb}
 use lib.IntN.{pos, negsuc, _-ℤ_}
 use lib.Signed.{_≤ℤ_}
 use Rattle.rules.specs.Demands.{sumOver, sumSinceFirst, exactShare, down, up, distance, Demand3}
-use Rattle.rules.specs.Distributed.{roundedDown, remainder, leftOver, oneEach, runningSum, runningAfter, distributedFigure}
+use Rattle.rules.specs.Distributed.{roundedDown, remainder, leftOver, runningSum, runningAfter, distributedFigure}
+use Rattle.rules.specs.LargestRemainder.{oneEach}
 use Rattle.rules.specs.Flows.{W}
 use Rattle.rules.specs.Words.{sum, sumℤ}
 use Rattle.rules.proofs.Integers.{minus-cong, minus-near, minus-at-least, minus-at-most, minus-scale, minus-minus, pos-minus-zero, growths-add-up, sumℤ-minus}
-use Rattle.rules.proofs.LargestRemainder.{less, less-cases, ones, one-at-most, left-is-given-out, none-without-remainder, earlier-gets-too, before-is, less-one, less-at-most-one}
-use Rattle.rules.proofs.Sums.{sum-add, sum-scale, sum-cong, sum-le, sum-member, sum-split}
+use Rattle.rules.proofs.LargestRemainder.{LeftOver, all-handed-out, none-for-none, gets, larger-gets-too, one-at-most}
+use Rattle.rules.proofs.Sums.{sum-add, sum-scale, sum-cong, sum-member, sum-split}
 
 module _ (n : ℕ) (share : ℕ → ℕ) (some : 0 < W n share) where
   -- One division, for each r: share x r is floor x W and the remainder.
@@ -54,26 +55,10 @@ module _ (n : ℕ) (share : ℕ → ℕ) (some : 0 < W n share) where
       let back : leftOver n share r + floors r ≡ r = omega arith in
       omega (arith, whole r, ap (λ (x : ℕ). x * W n share) back)
 
-  -- no more is left over than parties have a remainder
-  few-left : (r : ℕ) → leftOver n share r ≤ sum n (λ j. less 0 (remainder n share r j))
+  -- what the rule hands out by
+  left-over : (r : ℕ) → LeftOver n (W n share) (remainder n share r) (leftOver n share r)
   unfolding remainders
-  few-left r =
-      let each : sum n (remainder n share r) ≤ sum n (λ j. less 0 (remainder n share r j) * W n share) = sum-le n (λ j b. one-whole-each r j) in
-      le-of-mul-le-mul-right
-      (omega (arith, left-is r, sum-scale n (λ j. less 0 (remainder n share r j)) (W n share)))
-      some
-    where
-      one-whole-each : (r j : ℕ) → remainder n share r j ≤ less 0 (remainder n share r j) * W n share
-      one-whole-each r j =
-          ⊎-elim
-          (λ (l : (0 < remainder n share r j) × (less 0 (remainder n share r j) ≡ 1)). rw (l .1) (omega (arith, remainder-below r j)))
-          (λ (z : (remainder n share r j ≤ 0) × (less 0 (remainder n share r j) ≡ 0)). omega (arith, z .0))
-          (less-cases 0 (remainder n share r j))
-
-  left-at-most-n : (r : ℕ) → leftOver n share r ≤ n
-  left-at-most-n r =
-      le-trans (few-left r)
-      (ones n (λ j. less 0 (remainder n share r j)) (λ i b. less-at-most-one 0 (remainder n share r i)))
+  left-over r = record { some = some; below = remainder-below r; in-all = left-is r }
 
   share-at-most-W : (i : ℕ) → i < n → share i ≤ W n share
   unfolding W
@@ -83,21 +68,13 @@ module _ (n : ℕ) (share : ℕ → ℕ) (some : 0 < W n share) where
   pub running-adds-up : (r : ℕ) → sum n (runningSum n share r) ≡ r
   unfolding runningSum leftOver floors
   running-adds-up r =
-      let given : sum n (oneEach n (remainder n share r) (leftOver n share r)) ≡ leftOver n share r = left-is-given-out n (remainder n share r) (leftOver n share r) (left-at-most-n r) in
+      let given : sum n (oneEach n (remainder n share r) (leftOver n share r)) ≡ leftOver n share r = all-handed-out (left-over r) in
       omega
       (arith, sum-add n (roundedDown n share r) (oneEach n (remainder n share r) (leftOver n share r)), floors-at-most r)
 
   -- what a party gets of the left-over Wh: none, or one and it has a remainder
-  pub gets : (r i : ℕ) → (oneEach n (remainder n share r) (leftOver n share r) i ≡ 0) ⊎ ((oneEach n (remainder n share r) (leftOver n share r) i ≡ 1) × (0 < remainder n share r i))
-  gets r i =
-      ⊎-elim
-      (λ (z : remainder n share r i ≡ 0). inl (none-without-remainder n (remainder n share r) (leftOver n share r) i (few-left r) z))
-      (λ (p : 0 < remainder n share r i).
-      ⊎-elim (λ (z : oneEach n (remainder n share r) (leftOver n share r) i ≡ 0). inl z)
-      (λ (q : 0 < oneEach n (remainder n share r) (leftOver n share r) i).
-      inr (omega (arith, one-at-most n (remainder n share r) (leftOver n share r) i), p))
-      (eq-zero-or-pos (oneEach n (remainder n share r) (leftOver n share r) i)))
-      (eq-zero-or-pos (remainder n share r i))
+  pub gets-wh : (r i : ℕ) → (oneEach n (remainder n share r) (leftOver n share r) i ≡ 0) ⊎ ((oneEach n (remainder n share r) (leftOver n share r) i ≡ 1) × (0 < remainder n share r i))
+  gets-wh r = gets (left-over r)
 
   -- A RUNNING SUM IS LESS THAN 1 WH FROM THE EXACT SHARE
   pub running-below : (r i : ℕ) → runningSum n share r i * W n share < share i * r + W n share
@@ -107,7 +84,7 @@ module _ (n : ℕ) (share : ℕ → ℕ) (some : 0 < W n share) where
       (λ (z : oneEach n (remainder n share r) (leftOver n share r) i ≡ 0). rw z (omega (arith, divided r i, some)))
       (λ (o : (oneEach n (remainder n share r) (leftOver n share r) i ≡ 1) × (0 < remainder n share r i)).
       rw (o .0) (omega (arith, divided r i, o .1)))
-      (gets r i)
+      (gets-wh r i)
 
   pub running-above : (r i : ℕ) → share i * r < runningSum n share r i * W n share + W n share
   unfolding runningSum
@@ -136,7 +113,7 @@ module _ (n : ℕ) (share : ℕ → ℕ) (some : 0 < W n share) where
       (rw (o .0)
       (sym
       (div-eq-of-lt-le {k = share i * r / W n share + 1} (W n share) (omega (arith, divided r i, o .1, some)) (omega (arith, divided r i, remainder-below r i))))))
-      (gets r i)
+      (gets-wh r i)
 
   -- the floor of the larger share is not the smaller
   floors-rise : (r i j : ℕ) → share j < share i → roundedDown n share r j ≤ roundedDown n share r i
@@ -160,12 +137,10 @@ module _ (n : ℕ) (share : ℕ → ℕ) (some : 0 < W n share) where
           ⊎-elim
           (λ (z : r ≡ 0).
           let none : remainder n share r j ≡ 0 = omega (arith, divided r j, ap (λ (x : ℕ). share j * x) z) in
-          omega (arith, none-without-remainder n (remainder n share r) (leftOver n share r) j (few-left r) none))
+          omega (arith, none-for-none (left-over r) j none))
           (λ (p : 0 < r).
           let more : remainder n share r j < remainder n share r i = omega (arith, divided r i, divided r j, ap (λ (x : ℕ). x * W n share) e, mul-le-mul-right r h) in
-          earlier-gets-too n (remainder n share r) (leftOver n share r) j i
-          (before-is (remainder n share r) i j
-          ∙ less-one (remainder n share r j) (remainder n share r i + less i j) (omega arith)))
+          larger-gets-too n (remainder n share r) (leftOver n share r) i j more)
           (eq-zero-or-pos r)
 
   module _ (residual : ℕ → ℕ) where

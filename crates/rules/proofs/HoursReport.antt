@@ -10,7 +10,8 @@ use lib.Dec.{T, leb→le, le→leb, ltb→lt}
 use lib.IntN.{ℤ, pos, negsuc, natAbs, _-ℤ_, _*ℤ_}
 use lib.Signed.{ltZ, leZ, _≤ℤ_, ltZ-no, ≤ℤ-refl}
 use Rattle.rules.specs.Demands.{sumOver, sumSinceFirst, exactShare}
-use Rattle.rules.specs.Distributed.{remainder, leftOver, oneEach, roundedDown, runningSum, runningAfter, distributedFigure}
+use Rattle.rules.specs.Distributed.{remainder, leftOver, roundedDown, runningSum, runningAfter, distributedFigure}
+use Rattle.rules.specs.LargestRemainder.{oneEach}
 use Rattle.rules.specs.Flows.{W}
 use Rattle.rules.specs.HoursReport.{distanceAfter, smaller, larger, smallest, largest}
 use Rattle.rules.specs.Month.{shareOf, monthW, appliedWh, distributed}

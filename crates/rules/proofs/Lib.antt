@@ -8,6 +8,7 @@ pub mod Flows
 pub mod Demand3
 pub mod Periodised
 pub mod Reconciliation
+pub mod Invoice
 pub mod Whole
 pub mod Month
 pub mod Setting

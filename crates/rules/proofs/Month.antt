@@ -14,9 +14,10 @@ use Rattle.rules.specs.Accepted.{NoneRefuses}
 use Rattle.rules.specs.Demands.{Demand3}
 use Rattle.rules.specs.Distributed.{distributedFigure, runningAfter}
 use Rattle.rules.specs.Flows.{Flows, figure, noFigure, residual, judged, judgedBy, verdictOf, residualWh, appliedSeries, W}
+use Rattle.rules.specs.Invoice.{InvoiceColumn}
 use Rattle.rules.specs.Limits.{mostHours, greatestW, greatestResidual, greatestCurveNumber, greatestPeriodised, greatestPrice}
 use Rattle.rules.specs.Month.{flowsAt, shareOf, monthW, appliedFlows, appliedWh, priceAt, periodised, allPeriodised, loss, distributed}
-use Rattle.rules.specs.Month.{difference, amount, monthDifference, monthAmount, monthDistributed, hourVerdict, curveVerdict}
+use Rattle.rules.specs.Month.{difference, amount, monthDifference, monthAmount, invoice, monthDistributed, hourVerdict, curveVerdict}
 use Rattle.rules.specs.Month.{periodisedVerdict, monthChecks, monthVerdict, curve}
 use Rattle.rules.specs.MonthFile.{MonthFile, H, P}
 use Rattle.rules.specs.Reconciliation.{gridLoss, lossOf, differenceOf, amountMillionths}
@@ -24,6 +25,7 @@ use Rattle.rules.specs.Refusals.{wOutOfRange, residualTooLarge, accepted
 use Rattle.rules.specs.Setting.{Setting}
 use Rattle.rules.specs.Words.{sum, sumℤ, within}
 use Rattle.rules.proofs.Demand3.{demand-3, growth-in-range}
+use Rattle.rules.proofs.Invoice.{invoice-column}
 use Rattle.rules.proofs.Integers.{minus-add, minus-near, opposite, pos-minus-zero, size-of-product, size-of-sums, sumℤ-cong, sumℤ-swap, sumℤ-zero, sumℤ-pos}
 use Rattle.rules.proofs.Reconciliation.{differences-add-up, amounts-add-up}
 use Rattle.rules.proofs.Refusals.{accepted-exactly, in-turn-exactly, unless-exactly, refused-not-accepted}
@@ -140,6 +142,11 @@ module _ (m : MonthFile) (j : Judged m) where
   pub all-amounts : sumℤ (P m) (monthAmount m) ≡ pos 0
   unfolding monthAmount
   all-amounts = sumℤ-swap (P m) (H m) (amount m) ∙ sumℤ-zero (H m) (λ t b. hour-amounts-add-up t)
+
+  -- W2: THE INVOICE COLUMN OF THE MONTH is what W2 asks for, so it adds up to 0
+  pub month-invoice-column : InvoiceColumn (P m) (monthAmount m) (invoice m)
+  unfolding invoice
+  month-invoice-column = invoice-column (P m) (monthAmount m) all-amounts
 
   -- A DIFFERENCE LIES WITHIN 2,000,000,001 WH of either sign (`greatestDifference`). With the running sum a after and b before the hour, the residual r and all periodised s:
   -- the carrier's is p + (r - s) - (a - b), another's p - (a - b).

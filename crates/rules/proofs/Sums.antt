@@ -33,6 +33,12 @@ unfolding sum
 sum-zero zero h = refl
 sum-zero (suc n) {f} h = omega (arith, sum-zero n {f = f} (λ i b. h i (omega arith)), h n (omega arith))
 
+-- n figures that are each at most so much
+pub sum-at-most : (n : ℕ) (f : ℕ → ℕ) (most : ℕ) → ((i : ℕ) → i < n → f i ≤ most) → sum n f ≤ n * most
+unfolding sum
+sum-at-most zero f most h = zero-le
+sum-at-most (suc n) f most h = omega (arith, sum-at-most n f most (λ i b. h i (omega arith)), h n (omega arith))
+
 -- and where one figure is less, the sum is less
 pub sum-lt : (n : ℕ) {f g : ℕ → ℕ} → ((i : ℕ) → i < n → f i ≤ g i) → {k : ℕ} → k < n → f k < g k → sum n f < sum n g
 unfolding sum

@@ -1,10 +1,10 @@
 -- The cases of 01 marked P, each by computing the definitions.
 use mathlib.Core.Path.{refl}
-use Rattle.rules.specs.WorkedCases.{read, residualOf, curveOf, distributionOf, periodisationOf, WorkedCases}
+use Rattle.rules.specs.WorkedCases.{read, residualOf, curveOf, distributionOf, periodisationOf, invoiceOf, WorkedCases}
 use Rattle.rules.proofs.Computed.{words, hours, parts, services}
 
 pub worked-cases : WorkedCases
-unfolding words hours parts services read residualOf curveOf distributionOf periodisationOf
+unfolding words hours parts services read residualOf curveOf distributionOf periodisationOf invoiceOf
 worked-cases =
     record {
       R1 = refl;
@@ -22,6 +22,4 @@ worked-cases =
       P3 = refl;
       P3-nothing = refl;
       M1 = refl;
-      M1-negative = refl;
-      M1-below = refl;
     }

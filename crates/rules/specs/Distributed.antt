@@ -1,11 +1,10 @@
 -- "Distributed consumption" (01; H2 5.3 gives share / W x residual). Nothing is rounded hour by hour: a party's running sum since
 -- the first hour is rounded, and the hour's figure is what the running sum grew by.
-use mathlib.Core.Bool.{Bool, cond, _&&_, _||_}
 use Prim.Native.Nat.{ℕ, suc, _+_, _-_, _*_, _/_, _%_}
-use lib.Dec.{eqb, ltb}
 use lib.IntN.{ℤ, pos, _-ℤ_}
 use Rattle.rules.specs.Flows.{W}
-use Rattle.rules.specs.Words.{sum, count}
+use Rattle.rules.specs.LargestRemainder.{oneEach}
+use Rattle.rules.specs.Words.{sum}
 
 -- "A party's running sum after t starts as share x R / W rounded down."
 unfoldable pub roundedDown : ℕ → (ℕ → ℕ) → ℕ → ℕ → ℕ
@@ -19,19 +18,8 @@ remainder parties share r i = share i * r % W parties share
 unfoldable pub leftOver : ℕ → (ℕ → ℕ) → ℕ → ℕ
 leftOver parties share r = r - sum parties (roundedDown parties share r)
 
--- "the largest remainders ..; of equal remainders the lower party number comes first": j comes before i
-unfoldable pub comesBefore : (ℕ → ℕ) → ℕ → ℕ → Bool
-comesBefore rest j i = ltb (rest i) (rest j) || (eqb (rest j) (rest i) && ltb j i)
-
--- how many come before i
-unfoldable pub rank : ℕ → (ℕ → ℕ) → ℕ → ℕ
-rank n rest i = count n (λ j. comesBefore rest j i)
-
--- "go one each to the parties with the largest remainders": 1 for the first `left` of n, 0 for the others
-unfoldable pub oneEach : ℕ → (ℕ → ℕ) → ℕ → ℕ → ℕ
-oneEach n rest left i = cond (ltb (rank n rest i) left) 1 0
-
--- a party's running sum, where r is "R .. the sum of the applied residuals from hour 0 up to and including hour t"
+-- "The Wh still left over go one each to the parties with the largest remainders": a party's running sum, where r is "R .. the sum of the applied residuals from
+-- hour 0 up to and including hour t"
 unfoldable pub runningSum : ℕ → (ℕ → ℕ) → ℕ → ℕ → ℕ
 runningSum parties share r i =
     roundedDown parties share r i + oneEach parties (remainder parties share r) (leftOver parties share r) i

@@ -29,10 +29,12 @@ pub mod Refusals
 pub mod Setting
 pub mod Accepted
 pub mod Flows
+pub mod LargestRemainder
 pub mod Distributed
 pub mod Demands
 pub mod Periodised
 pub mod Reconciliation
+pub mod Invoice
 pub mod Gln
 pub mod Record
 pub mod WellFormed

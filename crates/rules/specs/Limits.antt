@@ -74,6 +74,10 @@ measured = 1
 abbrev pub estimated : ℕ
 estimated = 2
 
+-- "Amount = difference x price, exact, in millionths of an øre" (Reconciliation): so many make one
+abbrev pub millionthsInOre : ℕ
+millionthsInOre = 1000000
+
 -- "At most 65,536 bytes." (The month file)
 abbrev pub longestFile : ℕ
 longestFile = 65536

@@ -7,10 +7,11 @@ use lib.IntN.{ℤ, pos}
 use lib.ListN.{length, getD}
 use Rattle.rules.specs.Distributed.{distributedFigure}
 use Rattle.rules.specs.Flows.{Flows, W, residualWh, curveNumber, appliedSeries, judged, verdictOf}
+use Rattle.rules.specs.Invoice.{invoiceOre}
 use Rattle.rules.specs.Limits.{greatestW, greatestCurveNumber, greatestPeriodised, missing, estimated}
 use Rattle.rules.specs.MonthFile.{MonthFile, H, P, nothingYet, readMonth}
 use Rattle.rules.specs.Periodised.{periodisedFigure}
-use Rattle.rules.specs.Reconciliation.{gridLoss, lossOf, differenceOf, amountMillionths, invoiceOre}
+use Rattle.rules.specs.Reconciliation.{gridLoss, lossOf, differenceOf, amountMillionths}
 use Rattle.rules.specs.Record.{Party, Reading}
 use Rattle.rules.specs.Refusals.{notRefixed, wOutOfRange, curveTooLarge, nothingToFollow, periodisedTooLarge, wrongLength}
 use Rattle.rules.specs.Refusals.{Verdict, refused, Answer, given, refusal, unless, andThen, first, inTurn}
@@ -110,8 +111,9 @@ monthDifference m i = sumℤ (H m) (λ t. difference m t i)
 unfoldable pub monthAmount : MonthFile → ℕ → ℤ
 monthAmount m i = sumℤ (H m) (λ t. amount m t i)
 
+-- W2: "each party's exact month amount" in whole øre, all parties together
 unfoldable pub invoice : MonthFile → ℕ → ℤ
-invoice m i = invoiceOre (monthAmount m i)
+invoice m i = invoiceOre (P m) (monthAmount m) i
 
 -- "the number of applied hours with status 2"
 unfoldable pub isEstimated : List Flows → ℕ → Bool

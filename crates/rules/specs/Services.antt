@@ -11,6 +11,7 @@ use lib.ListN.{length, getD}
 use lib.Signed.{leZ}
 use Rattle.rules.specs.Distributed.{distributedFigure}
 use Rattle.rules.specs.Flows.{Flows, silentIsZero, judged, verdictOf, residualWh, W, curveNumber}
+use Rattle.rules.specs.Invoice.{invoiceOre}
 use Rattle.rules.specs.Limits.{estimated, greatestFlow, mostHours, mostParties, greatestShare, greatestW, greatestResidual}
 use Rattle.rules.specs.Limits.{greatestCurveNumber, mostWeights, greatestEnergy, greatestPeriodised, greatestPrice, greatestDistributed}
 use Rattle.rules.specs.Periodised.{periodisedFigure}
@@ -162,3 +163,14 @@ amountAt differences price i = amountMillionths (atℤ differences i) price
 
 unfoldable pub reconciliationAmounts : List ℤ → ℤ → List ℤ
 reconciliationAmounts differences price = figures (length differences) (amountAt differences price)
+
+-- INVOICE: exact amounts. 16; 4 (P); W2: "Exact amounts handed in alone that don't add up to 0 are 4, place 0." Any amounts are taken, and the sum is the true one.
+unfoldable pub invoiceChecks : List ℤ → ℕ → List Verdict
+invoiceChecks amounts lent =
+    unless (eqb lent (length amounts)) wrongLength 0
+    ∷ unless (within 1 mostParties (length amounts)) outOfRange 0
+    ∷ unless (sameℤ (sumℤ (length amounts) (atℤ amounts)) (pos 0)) outOfRange 0
+    ∷ []
+
+unfoldable pub invoiceFigures : List ℤ → List ℤ
+invoiceFigures amounts = figures (length amounts) (invoiceOre (length amounts) (atℤ amounts))

@@ -6,9 +6,9 @@ use Prim.Native.Nat.{ℕ, _*_}
 use lib.IntN.{ℤ, pos, negsuc}
 use lib.ListN.{length}
 use Rattle.rules.specs.Limits.{missing, measured}
-use Rattle.rules.specs.Reconciliation.{invoiceOre}
 use Rattle.rules.specs.Refusals.{numberOf, Verdict, accepted, refused, first}
 use Rattle.rules.specs.Services.{residualChecks, residualFigures, curveChecks, curveFigures, distributionChecks, distributionFigures, periodisationChecks, periodisationFigures}
+use Rattle.rules.specs.Services.{invoiceChecks, invoiceFigures}
 
 -- what a caller reads: the service accepts and gives these figures, or it refuses with a number at a place
 pub data Answered (A : Type 0) : Type 0 where
@@ -34,6 +34,9 @@ distributionOf shares residuals =
 
 unfoldable pub periodisationOf : ℕ → List ℕ → Answered ℕ
 periodisationOf e weights = read (first (periodisationChecks e weights (length weights))) (periodisationFigures e weights)
+
+unfoldable pub invoiceOf : List ℤ → Answered ℤ
+invoiceOf amounts = read (first (invoiceChecks amounts (length amounts))) (invoiceFigures amounts)
 
 pub record WorkedCases : Type 0 where
   -- "R1 P: flows -5, 105, 40, 20 give 40."
@@ -63,7 +66,5 @@ pub record WorkedCases : Type 0 where
   -- "P3 P: E 7, weights 0, 0: refused with 13; E 0 accepted."
   pub P3 : periodisationOf 7 (0 ∷ 0 ∷ []) ≡ refusedWith 13 0
   pub P3-nothing : periodisationOf 0 (0 ∷ 0 ∷ []) ≡ gives (0 ∷ 0 ∷ [])
-  -- "M1 P: 500,000 millionths is 1 øre, -500,000 is -1, 499,999 is 0."
-  pub M1 : invoiceOre (pos 500000) ≡ pos 1
-  pub M1-negative : invoiceOre (negsuc 499999) ≡ negsuc 0
-  pub M1-below : invoiceOre (pos 499999) ≡ pos 0
+  -- W2: "exact amounts of 0.5, 0.5 and -1 øre .. The example becomes 1, 0, -1. Case M1 is replaced by this one"
+  pub M1 : invoiceOf (pos 500000 ∷ pos 500000 ∷ negsuc 999999 ∷ []) ≡ gives (pos 1 ∷ pos 0 ∷ negsuc 0 ∷ [])

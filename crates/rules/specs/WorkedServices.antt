@@ -11,7 +11,7 @@ use Rattle.rules.specs.Refusals.{fileFault, unknownKind, outOfRange, gln
 use Rattle.rules.specs.Refusals.{curveTooLarge, spanFault, energyTooLarge, periodisedTooLarge, wrongLength, accepted, refused, given}
 use Rattle.rules.specs.Refusals.{refusal, first}
 use Rattle.rules.specs.Services.{residualChecks, residualFigures, curveChecks, distributionChecks, periodisationChecks}
-use Rattle.rules.specs.Services.{reconciliationChecks, reconciliationLoss, reconciliationDifferences, reconciliationAmounts}
+use Rattle.rules.specs.Services.{reconciliationChecks, reconciliationLoss, reconciliationDifferences, reconciliationAmounts, invoiceChecks, invoiceFigures}
 use Rattle.rules.specs.WorkedMonths.{supply, partyOf, readingOf}
 use Rattle.rules.specs.Words.{figures}
 
@@ -71,6 +71,15 @@ pub record WorkedServices : Type 0 where
   pub reconciliation-amounts :
       reconciliationAmounts (pos 1950000 ∷ negsuc 3299999 ∷ pos 1350000 ∷ []) (pos 29000)
       ≡ pos 56550000000 ∷ negsuc 95699999999 ∷ pos 39150000000 ∷ []
+  -- W2: below zero rounded down too, so that the øre go to the smaller sizes; equal remainders; a part of an øre against its opposite; nobody's amounts; the true
+  -- sum, also where a sum of 64 bits would be 0; 16 before 4
+  pub invoice-below-zero : invoiceFigures (negsuc 499999 ∷ negsuc 499999 ∷ pos 1000000 ∷ []) ≡ pos 0 ∷ negsuc 0 ∷ pos 1 ∷ []
+  pub invoice-tie : invoiceFigures (pos 250000 ∷ pos 250000 ∷ pos 250000 ∷ negsuc 749999 ∷ []) ≡ pos 1 ∷ pos 0 ∷ pos 0 ∷ negsuc 0 ∷ []
+  pub invoice-opposite : invoiceFigures (negsuc 299999 ∷ pos 300000 ∷ []) ≡ pos 0 ∷ pos 0 ∷ []
+  pub invoice-nobody : first (invoiceChecks [] 0) ≡ refused outOfRange 0
+  pub invoice-one : first (invoiceChecks (pos 1 ∷ []) 1) ≡ refused outOfRange 0
+  pub invoice-true-sum : first (invoiceChecks (pos 4611686018427387904 ∷ pos 4611686018427387904 ∷ pos 4611686018427387904 ∷ pos 4611686018427387904 ∷ []) 4) ≡ refused outOfRange 0
+  pub invoice-lent : first (invoiceChecks [] 1) ≡ refused wrongLength 0
   -- "The body lengths, by kind, are these": 01 heading, 02 party, 03 fixed hour, 04 reading, 05 price, 06 refixed hour, 07 end; 0 for an unknown kind
   pub body-lengths :
       figures 9 bodyLength ≡ 0 ∷ 9 ∷ 21 ∷ 35 ∷ 9 ∷ 6 ∷ 35 ∷ 4 ∷ 0 ∷ []

@@ -5,7 +5,7 @@ use native.Mathlib.Omega.{arith}
 use borrow.Author.Needs.{needs}
 use Rattle.apportion.proofs.Arrays.{Upto, upto-start, upto-next, upto-end}
 use Rattle.apportion.proofs.Thresholds.{gets}
-use Rattle.rules.specs.Distributed.{oneEach}
+use Rattle.rules.specs.LargestRemainder.{oneEach}
 use Rattle.rules.specs.Words.{at}
 use Rattle.apportion.proofs.one_each.Statement.{statement}
 use Rattle.apportion.proofs.one_each.Tie as tie
