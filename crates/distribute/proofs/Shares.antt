@@ -1,8 +1,8 @@
 -- W of the shares of a span: at most 64 shares within their limit can be added up, and their sum is tested against its limits.
 use mathlib.Core.List.{List}
 use mathlib.Core.Bool.{_&&_}
-use mathlib.Core.Path.{_≡_, refl, _∙_}
-use Prim.Native.Nat.{ℕ, zero, suc, _*_, _≤_, _<_}
+use mathlib.Core.Path.{_≡_, _∙_}
+use Prim.Native.Nat.{ℕ, _*_, _≤_, _<_}
 use native.Mathlib.Omega.{arith}
 use lib.Dec.{leb}
 use lib.ListN.{length}
@@ -11,12 +11,7 @@ use Rattle.distribute.specs.Shares.{FewShares}
 use Rattle.rules.specs.Flows.{W}
 use Rattle.rules.specs.Limits.{mostParties, greatestShare, greatestW}
 use Rattle.rules.specs.Words.{sum, at, within}
-use Rattle.rules.proofs.Sums.{sum-cong, sum-le, sum-scale}
-
-ones-add-up : (n : ℕ) → sum n (λ k. 1) ≡ n
-unfolding sum
-ones-add-up zero = refl
-ones-add-up (suc n) = omega (arith, ones-add-up n)
+use Rattle.rules.proofs.Sums.{sum-cong, sum-at-most}
 
 module _ {shares : List ℕ} (few : FewShares shares) {share : List ℕ} (filled : Filled 0 (at shares) (length shares) share) where
   same-sum : sum (length shares) (at share) ≡ W (length shares) (at shares)
@@ -25,11 +20,7 @@ module _ {shares : List ℕ} (few : FewShares shares) {share : List ℕ} (filled
 
   w-at-most : W (length shares) (at shares) ≤ mostParties * greatestShare
   unfolding W
-  w-at-most =
-      let n = length shares in
-      let each : sum n (at shares) ≤ sum n (λ k. 1 * greatestShare) = sum-le n (λ k b. few .fit k b) in
-      let all : sum n (λ k. 1 * greatestShare) ≡ sum n (λ k. 1) * greatestShare = sum-scale n (λ k. 1) greatestShare in
-      omega (arith, each, all, ones-add-up n, few .few)
+  w-at-most = omega (arith, sum-at-most (length shares) (at shares) greatestShare (few .fit), few .few)
 
   pub shares-add-up : sum (length shares) (at share) < 18446744073709551616
   shares-add-up = omega (arith, same-sum, w-at-most)

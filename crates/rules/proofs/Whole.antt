@@ -5,11 +5,12 @@ use mathlib.Core.List.{List, [], _∷_, _++_}
 use mathlib.Core.Logic.{_⊎_, _↔_, inl, inr, ⊎-elim}
 use mathlib.Core.Path.{_≡_, refl, _∙_, ap, subst}
 use Prim.Native.Nat.{ℕ, zero, suc, _+_, _≤_, _<_, zero-le}
-use native.Mathlib.Nat.{not-suc-le-zero, le-of-suc-le-suc, eq-zero-or-pos, lt-trans}
+use native.Mathlib.Nat.{le-refl, le-antisymm, not-suc-le-zero, le-of-suc-le-suc, eq-zero-or-pos, lt-trans}
 use native.Mathlib.Omega.{arith}
-use borrow.Author.Tests.{ltb-true, leb-true, eqb-true, lt-ltb}
+use borrow.Author.Tests.{ltb-true, leb-true, eqb-true, lt-ltb, le-leb}
 use lib.Dec.{eqb, leb, ltb}
 use lib.IntN.{ℤ, pos, negsuc, natAbs}
+use lib.Signed.{leZ}
 use lib.ListN.{length, getD, drop, length-append, length-drop}
 use Rattle.rules.specs.Accepted.{NoneRefuses}
 use Rattle.rules.specs.Flows.{Flows, flowsInRange, silentIsZero}
@@ -19,18 +20,38 @@ use Rattle.rules.specs.MonthFile.{MonthFile, nothingYet, H, P, due, rise
 use Rattle.rules.specs.Record.{Heading, Party, Reading, Record, heading, party, fixedHour, reading, price, refixedHour, end, bodyLength, recordAt}
 use Rattle.rules.specs.Record.{inFile, headingInRange, hourInRange, checks}
 use Rattle.rules.specs.Refusals.{Refusal, fileFault, Verdict, accepted, refused, Answer, given, refusal, first}
+use Rattle.rules.specs.Services.{sameℤ}
 use Rattle.rules.specs.Setting.{Setting}
 use Rattle.rules.specs.Words.{within, withinℤ}
 use Rattle.rules.proofs.Refusals.{accepted-exactly, unless-exactly, given-not-refusal}
 pub use Rattle.rules.specs.WellFormed.{Every, PartyRight, FlowsRight, PriceRight, ReadingRight, HeadingRight, Below, Rising, Whole}
 
--- Tests: one is passed or not; both are passed; one of them is.
+-- Tests: one is passed or not; both are passed; one of them is; two numbers are the same.
 pub true-not-false : _≡_ {A = Bool} true false → ⊥
 true-not-false e = let z : _≡_ {A = ℕ} 0 1 = cc in omega arith
 
 pub both-pass : (a b : Bool) → a && b ≡ true → (a ≡ true) × (b ≡ true)
 both-pass true b e = (refl, e)
 both-pass false b e = (e, absurd (let z : _≡_ {A = ℕ} 0 1 = cc in omega arith))
+
+pub same-is : (a b : ℤ) → sameℤ a b ≡ true → a ≡ b
+unfolding sameℤ
+same-is (pos a) (pos b) h =
+    let e : (leb a b ≡ true) × (leb b a ≡ true) = both-pass (leb a b) (leb b a) h in
+    ap pos (le-antisymm (leb-true a b (e .0)) (leb-true b a (e .1)))
+same-is (pos a) (negsuc b) h = let z : _≡_ {A = ℕ} 0 1 = cc in absurd (omega arith)
+same-is (negsuc a) (pos b) h = let z : _≡_ {A = ℕ} 0 1 = cc in absurd (omega arith)
+same-is (negsuc a) (negsuc b) h =
+    let e : (leb b a ≡ true) × (leb a b ≡ true) = both-pass (leb b a) (leb a b) h in
+    ap negsuc (le-antisymm (leb-true a b (e .1)) (leb-true b a (e .0)))
+
+pub same-tests : (a b : ℤ) → a ≡ b → sameℤ a b ≡ true
+unfolding sameℤ
+same-tests a b e = subst (λ (x : ℤ). leZ a x && leZ x a ≡ true) e (itself a)
+  where
+    itself : (z : ℤ) → leZ z z && leZ z z ≡ true
+    itself (pos n) = rw (le-leb n n (le-refl n))
+    itself (negsuc n) = rw (le-leb n n (le-refl n))
 
 pub one-passes : (a b : Bool) → a || b ≡ true → (a ≡ true) ⊎ (b ≡ true)
 one-passes true b e = inl refl
