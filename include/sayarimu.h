@@ -19,6 +19,10 @@
 #include <stddef.h>
 #include <stdint.h>
 
+/* Which functions there are, and what they mean; a caller can ask for it by #if. 1 was the header without a number. 2 has
+ * `settle_invoice` in place of `settle_invoice_ore`, which rounded one amount by itself (02, W2). */
+#define SAYARIMU_VERSION 2
+
 #ifdef __cplusplus
 extern "C" {
 #endif
@@ -71,8 +75,12 @@ uint64_t settle_reconciliation(uint32_t residual_wh,
                                int64_t *amounts_millionths, size_t amounts_len,
                                int64_t *loss_wh);
 
-/* INVOICE. An exact amount in whole øre, to nearest, halves away from zero. Refuses nothing; lent nothing. */
-int64_t settle_invoice_ore(int64_t amount_millionths);
+/* INVOICE. The parties' exact amounts of a month in whole øre, which add up to 0, into `out`: each is rounded down, also
+ * below zero, and the øre then missing from zero go one each to the largest remainders, lower party number first. An amount
+ * may be any number. Refuses, in order: 16, `out` not as long as the amounts; 4, parties (the number of amounts) outside
+ * 1..64, then amounts whose sum, which does not wrap, is not 0. Lent: `out`. */
+uint64_t settle_invoice(const int64_t *amounts_millionths, size_t amounts_len,
+                        int64_t *out_ore, size_t out_len);
 
 #ifdef __cplusplus
 }

@@ -1,5 +1,5 @@
 //! The stored examples: S1 of 01, a full month with realistic figures, a month with a silent hour, the case D3 of 01 as a
-//! month that can be worked out by hand, and another such month before and after its refixation.
+//! month that can be worked out by hand, another such month before and after its refixation, and one for the whole øre.
 
 use crate::draft::{measured_hour, prices_of, Draft, DraftParty};
 use crate::gln::with_check_digit;
@@ -8,7 +8,7 @@ use crate::random::Random;
 use crate::record::{Heading, HourFlows, Reading};
 
 /// The names of the examples.
-pub const NAMES: [&str; 6] = ["s1", "full", "silent", "d3", "before", "after"];
+pub const NAMES: [&str; 7] = ["s1", "full", "silent", "d3", "before", "after", "ore"];
 
 /// The month file of an example; None for an unknown name.
 pub fn example(name: &str) -> Option<Vec<u8>> {
@@ -19,6 +19,7 @@ pub fn example(name: &str) -> Option<Vec<u8>> {
         "d3" => Some(d3().bytes()),
         "before" => Some(before().bytes()),
         "after" => Some(after().bytes()),
+        "ore" => Some(ore().bytes()),
         _ => None,
     }
 }
@@ -131,8 +132,44 @@ fn fixed_d3(area: u16, month: u8) -> Draft {
     }
 }
 
-/// Parties of these load shares. The first twelve digits of their GLNs are 1, 2, 3.
-fn numbered_parties(shares_kwh: [u64; 3]) -> Vec<DraftParty> {
+/// Five equal shares, two hours at 0.25 and -0.5 øre per Wh, and amounts that are whole for nobody: 0.75, 0.5, -0.5, -1.25
+/// and 0.5 øre, of which three øre are missing when they are rounded down, one of them by a tie. Refixation changed nothing.
+pub fn ore() -> Draft {
+    let series: Vec<HourFlows> = vec![measured_hour(0, 10), measured_hour(1, 5)];
+    let one_hour_reading = |(party, hour, e_wh)| Reading {
+        party,
+        a: hour,
+        b: hour + 1,
+        e_wh,
+    };
+    let readings = [
+        (0, 0, 3),
+        (1, 0, 4),
+        (1, 1, 1),
+        (2, 0, 2),
+        (2, 1, 2),
+        (4, 0, 2),
+    ];
+    Draft {
+        heading: Heading {
+            area: 5,
+            year: 2016,
+            month: 8,
+            hours: 2,
+            parties: 5,
+            carrier: 3,
+        },
+        parties: numbered_parties([1; 5]),
+        fixed: series.clone(),
+        refixed: series,
+        prices: prices_of([250_000, -500_000]),
+        readings: readings.map(one_hour_reading).to_vec(),
+        end_count: None,
+    }
+}
+
+/// Parties of these load shares. The first twelve digits of their GLNs are 1, 2, 3 and so on.
+fn numbered_parties<const PARTIES: usize>(shares_kwh: [u64; PARTIES]) -> Vec<DraftParty> {
     let parties = shares_kwh.into_iter().zip(1..);
     parties
         .map(|(load_share_kwh, number)| DraftParty {

@@ -12,9 +12,11 @@
 //! | `record` | one record: body lengths, fields, reading and writing it alone |
 //! | `month_file` | a whole file, record by record |
 //! | `residual` | "From flows to the curve" |
+//! | `largest_remainder` | the rule of "Distributed consumption" and of W2 by which exact figures become whole ones |
 //! | `distribution` | "Distributed consumption" |
 //! | `periodisation` | "Periodised consumption" |
-//! | `reconciliation` | "Reconciliation", one hour; the invoice figure |
+//! | `reconciliation` | "Reconciliation", one hour |
+//! | `invoice` | W2: the month's exact amounts in whole øre |
 //! | `setting` | W1: final or provisional |
 //! | `month` | a whole month: the order of refusals, the hours' figures, the month sums |
 //! | `statement` | "The statement program" |
@@ -27,10 +29,10 @@
 //! program with this one) and `bench` (months of a chosen size, to count instructions on).
 //!
 //! Every public service (`residual::residual`, `residual::curve`, `distribution::distribution`,
-//! `periodisation::periodisation`, `reconciliation::reconciliation`, `reconciliation::invoice_ore`, `record::read_alone`,
-//! `record::write`, `record::write_plain`, `month::settle`, `month::month_sums`) checks its own input, refuses as 01 says,
-//! and has an answer for every machine value. A service that 01 lends an output takes its length and hands back the
-//! figures, so that refused calls have nothing to write into.
+//! `periodisation::periodisation`, `reconciliation::reconciliation`, `invoice::invoice`, `record::read_alone`,
+//! `record::write`, `record::write_plain`, `month::settle`, `month::month_sums`) checks its own input, refuses as 01
+//! and 02 say, and has an answer for every machine value. A service that they lend an output takes its length and hands
+//! back the figures, so that refused calls have nothing to write into.
 
 pub mod bench;
 pub mod check;
@@ -40,6 +42,8 @@ pub mod draft;
 pub mod examples;
 pub mod gln;
 pub mod hours;
+pub mod invoice;
+mod largest_remainder;
 pub mod limits;
 pub mod make;
 pub mod month;

@@ -284,9 +284,7 @@ pub const SHAPES: &[(&str, Shape)] = &[
     ("prices at their limits", |random| {
         let refixed = is_refixed(random);
         let mut draft = small_month(random, refixed);
-        for price in &mut draft.prices {
-            price.price_ore = *random.pick(&[-5_000_000, 5_000_000]);
-        }
+        set_prices(random, &mut draft, &[-5_000_000, 5_000_000]);
         draft
     }),
     ("negative net supply", negative_net_supply),
@@ -371,18 +369,18 @@ pub const SHAPES: &[(&str, Shape)] = &[
             set_residuals(random, series, 0..=13);
         }
         add_readings(random, &mut draft, 5);
+        set_prices(random, &mut draft, &[250_000, -250_000, 500_000, 750_000]);
         draft
     }),
     ("amounts of half an øre", |random| {
-        let shares = shares_of_sum(random, 3, 9);
+        let parties = 3 + random.below(10);
+        let shares = shares_of_sum(random, parties, 9);
         let refixed = is_refixed(random);
         let mut draft = month_of_shares(random, 3, shares, refixed);
         set_residuals(random, &mut draft.fixed, 1_000..=2_000);
-        add_readings(random, &mut draft, 3);
+        add_readings(random, &mut draft, parties);
         // Any difference at these prices is a whole number of half øre.
-        for price in &mut draft.prices {
-            price.price_ore = *random.pick(&[500_000, -500_000, 1_500_000]);
-        }
+        set_prices(random, &mut draft, &[500_000, -500_000, 1_500_000]);
         draft
     }),
     ("largest sums", |random| {
@@ -508,6 +506,14 @@ fn set_residuals(random: &mut Random, series: &mut [HourFlows], range_wh: RangeI
     for flows in series {
         let residual = random.between(*range_wh.start(), *range_wh.end());
         *flows = random_hour(random, usize::from(flows.hour), residual);
+    }
+}
+
+/// Gives every hour one of these prices. At a few quarters or halves of an øre per Wh several parties' amounts have the same
+/// part of an øre over, so that a missing øre is given by a tie.
+fn set_prices(random: &mut Random, draft: &mut Draft, prices_ore: &[i32]) {
+    for price in &mut draft.prices {
+        price.price_ore = *random.pick(prices_ore);
     }
 }
 

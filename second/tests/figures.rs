@@ -1,4 +1,4 @@
-//! 01's "Figures to check against", each by its name, and S1's five lines.
+//! 01's "Figures to check against", each by its name, S1's five lines, and the figures of 02 that replace or join them.
 
 mod common;
 
@@ -6,10 +6,11 @@ use common::{assert_accepted, assert_refused, told};
 use second::distribution::distribution;
 use second::draft::{measured_hour, Draft};
 use second::examples;
+use second::invoice::invoice;
 use second::make::month;
 use second::periodisation::periodisation;
 use second::random::Random;
-use second::reconciliation::{invoice_ore, reconciliation};
+use second::reconciliation::reconciliation;
 use second::record::Reading;
 use second::residual::{curve, residual};
 use second::setting::Setting;
@@ -142,16 +143,63 @@ fn p3_7_over_no_weight_is_13_and_0_is_accepted() {
     assert_eq!(periodisation(0, &[0, 0], 2), Ok(vec![0, 0]));
 }
 
+/// "exact amounts of 0.5, 0.5 and -1 øre come out as 1, 1 and -1 .. The example becomes 1, 0, -1. Case M1 is replaced by
+/// this one".
 #[test]
-fn m1_halves_go_away_from_zero() {
-    assert_eq!(invoice_ore(500_000), 1);
-    assert_eq!(invoice_ore(-500_000), -1);
-    assert_eq!(invoice_ore(499_999), 0);
-    assert_eq!(invoice_ore(-499_999), 0);
-    assert_eq!(invoice_ore(1_500_000), 2);
-    assert_eq!(invoice_ore(2_499_999), 2);
-    assert_eq!(invoice_ore(i64::MAX), 9_223_372_036_855);
-    assert_eq!(invoice_ore(i64::MIN), -9_223_372_036_855);
+fn w2_half_an_ore_twice_and_minus_1_become_1_0_minus_1() {
+    assert_eq!(
+        invoice(&[500_000, 500_000, -1_000_000], 3),
+        Ok(vec![1, 0, -1])
+    );
+}
+
+#[test]
+fn w2_amounts_are_rounded_down_also_below_zero() {
+    // -1 with 500,000 over, twice, and 1: the one that is missing goes to the lower number.
+    assert_eq!(
+        invoice(&[-500_000, -500_000, 1_000_000], 3),
+        Ok(vec![0, -1, 1])
+    );
+    // -1 with 700,000 over and 0 with 300,000.
+    assert_eq!(invoice(&[-300_000, 300_000], 2), Ok(vec![0, 0]));
+    // -1 with 250,000 over, as the three others: a tie of all four.
+    assert_eq!(
+        invoice(&[250_000, 250_000, 250_000, -750_000], 4),
+        Ok(vec![1, 0, 0, -1])
+    );
+    // -2 with 750,000 over before 0 with 500,000, twice, and 0 with 250,000: of two missing, one is the first's of the ties.
+    assert_eq!(
+        invoice(&[250_000, 500_000, 500_000, -1_250_000], 4),
+        Ok(vec![0, 1, 0, -1])
+    );
+}
+
+#[test]
+fn w2_whole_amounts_stay() {
+    assert_eq!(invoice(&[0], 1), Ok(vec![0]));
+    assert_eq!(
+        invoice(&[-2_000_000, 5_000_000, -3_000_000], 3),
+        Ok(vec![-2, 5, -3])
+    );
+}
+
+/// Down, the smallest amount is -9,223,372,036,855 with 224,192 over, and the largest 9,223,372,036,854 with 775,807.
+#[test]
+fn w2_the_extremes_of_the_machine_are_taken() {
+    assert_eq!(
+        invoice(&[i64::MIN, i64::MAX, 1], 3),
+        Ok(vec![-9_223_372_036_855, 9_223_372_036_855, 0])
+    );
+    assert_eq!(
+        invoice(&[i64::MAX, -i64::MAX], 2),
+        Ok(vec![9_223_372_036_855, -9_223_372_036_855])
+    );
+    // Thirty-one of either and what balances them: thirty-one missing, one for each of the largest amounts.
+    let mut amounts = [[i64::MIN, i64::MAX]; 31].concat();
+    amounts.push(31);
+    let mut figures = [[-9_223_372_036_855, 9_223_372_036_855]; 31].concat();
+    figures.push(0);
+    assert_eq!(invoice(&amounts, 63), Ok(figures));
 }
 
 /// A month of so many hours and parties that is good but for its size.
@@ -178,6 +226,8 @@ fn bounds_64_parties_accepted_65_is_4() {
         told(reconciliation(0, &[0; 65], &[0; 65], 0, 0, 65, 65)),
         (4, 0)
     );
+    assert_eq!(invoice(&[0; 64], 64), Ok(vec![0; 64]));
+    assert_eq!(told(invoice(&[0; 65], 65)), (4, 0));
 }
 
 #[test]

@@ -13,7 +13,7 @@ use second::check::{first_difference, Check, Feed};
 use second::damage::{BYTES_FAULTS, DRAFT_FAULTS, RANDOM_DAMAGES};
 use second::limits::FILE_BYTES_MAX;
 use second::make::{file, files, month, write_files, Aim, MadeFile, Tally, SHAPES};
-use second::month::{settle, Month};
+use second::month::{settle, Month, PartySums};
 use second::random::Random;
 use second::report::Report;
 use second::setting::Setting;
@@ -195,6 +195,18 @@ const PROPERTIES: &[(&str, Property)] = &[
     ("half an øre", |_, month| {
         let mut sums = month.party_sums().into_iter();
         sums.any(|sums| sums.amount_millionths % 1_000_000 == 500_000)
+    }),
+    ("a tie for a missing øre", |_, month| {
+        let sums = month.party_sums();
+        let rounded = |sums: &PartySums| {
+            let (amount, ore) = (sums.amount_millionths, 1_000_000);
+            let is_up = sums.invoice_ore > amount.div_euclid(ore);
+            (amount.rem_euclid(ore), is_up)
+        };
+        let up = sums.iter().map(rounded).filter(|&(_, is_up)| is_up);
+        let remainders_up: Vec<i64> = up.map(|(remainder, _)| remainder).collect();
+        let mut all = sums.iter().map(rounded);
+        all.any(|(remainder, is_up)| !is_up && remainders_up.contains(&remainder))
     }),
     ("largest amount", |_, month| {
         let mut sums = month.party_sums().into_iter();

@@ -1,9 +1,10 @@
-//! The services alone, READINGS A30 to A40: every refusal with its place, and the order of two.
+//! The services alone, READINGS A30 to A40 and A54: every refusal with its place, and the order of two.
 
 mod common;
 
 use common::told;
 use second::distribution::distribution;
+use second::invoice::invoice;
 use second::periodisation::periodisation;
 use second::reconciliation::{reconciliation, ReconciledHour};
 use second::refusal::Refusal;
@@ -417,6 +418,41 @@ fn a37_reconciliation_adding_up_is_the_last_4_then_9_then_14() {
         too_much(hour);
     });
     assert_eq!(told(both), (9, 0));
+}
+
+#[test]
+fn a54_invoice_is_16_then_4_for_p_then_4_for_the_sum() {
+    for (parties, lent) in [(2, 1), (2, 3), (2, 0), (0, 1), (65, 64), (64, 65)] {
+        assert_eq!(told(invoice(&vec![1; parties], lent)), (16, 0));
+    }
+    // No amount adds up to 0 and is still refused, as is one too many.
+    assert_eq!(told(invoice(&[], 0)), (4, 0));
+    assert_eq!(told(invoice(&[0; 65], 65)), (4, 0));
+    assert_eq!(invoice(&[0; 64], 64), Ok(vec![0; 64]));
+    for amounts in [&[1][..], &[-1], &[1_000_000], &[500_000, 500_000, -999_999]] {
+        assert_eq!(told(invoice(amounts, amounts.len())), (4, 0));
+    }
+}
+
+/// Sums of 64 bits would come to 0.
+#[test]
+fn a54_the_sum_of_the_amounts_is_the_true_one() {
+    for amounts in [
+        &[1 << 62; 4][..],
+        &[i64::MIN; 2],
+        &[i64::MIN, i64::MIN, 1, -1],
+        &[i64::MAX, i64::MAX, 2],
+        &[i64::MIN; 64],
+    ] {
+        assert_eq!(amounts.iter().fold(0i64, |sum, &a| sum.wrapping_add(a)), 0);
+        assert_eq!(told(invoice(amounts, amounts.len())), (4, 0));
+    }
+    // On the way to 0 the sum may pass 64 bits, in either direction.
+    let (one, other) = (i64::MAX, -i64::MAX);
+    for amounts in [[one, one, other, other], [other, other, one, one]] {
+        let figures = invoice(&amounts, 4).unwrap();
+        assert_eq!(figures.iter().sum::<i64>(), 0);
+    }
 }
 
 /// The code by which a service called from C tells a refusal.

@@ -5,7 +5,7 @@ use std::fs::{self, File};
 use std::path::PathBuf;
 use std::process::{Command, Output, Stdio};
 
-use second::examples::{example, full, NAMES};
+use second::examples::{example, full, ore, NAMES};
 use second::month::settle;
 use second::report::Report;
 use second::setting::Setting;
@@ -50,6 +50,17 @@ fn the_full_month_is_a_full_month() {
     assert!(!month.refixed_wh.is_empty() && month.refixed_wh != month.fixed_wh);
     assert!(month.estimated_hours() > 0);
     assert!(month.file.prices.iter().any(|price| price.price_ore < 0));
+}
+
+/// The figures of examples/README.md.
+#[test]
+fn the_ore_month_has_a_tie_and_three_missing_ore() {
+    let bytes = ore().bytes();
+    let sums = settle(&bytes, Setting::Final).unwrap().party_sums();
+    let amounts: Vec<i64> = sums.iter().map(|sums| sums.amount_millionths).collect();
+    assert_eq!(amounts, [750_000, 500_000, -500_000, -1_250_000, 500_000]);
+    let invoices: Vec<i64> = sums.iter().map(|sums| sums.invoice_ore).collect();
+    assert_eq!(invoices, [1, 1, -1, -1, 0]);
 }
 
 #[test]

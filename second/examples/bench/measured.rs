@@ -114,9 +114,12 @@ pub fn run() {
             repeat(which, times, ours, theirs);
         }
         _ => {
-            let amount = -1_234_567_890_123;
-            let ours = || compiled::invoice_ore(black_box(amount));
-            let theirs = || plain::invoice_ore(black_box(amount));
+            let mut amounts: Vec<i64> = (0..PARTIES)
+                .map(|_| random.between(-1_000_000_000_000, 1_000_000_000_000))
+                .collect();
+            amounts[5] -= amounts.iter().sum::<i64>();
+            let ours = || accepted(compiled::invoice(black_box(&amounts), PARTIES));
+            let theirs = || accepted(plain::invoice(black_box(&amounts), PARTIES));
             repeat(which, times, ours, theirs);
         }
     }

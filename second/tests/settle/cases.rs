@@ -1,8 +1,8 @@
-//! 01's "Figures to check against", and its bounds, through the compiled services.
+//! 01's "Figures to check against", with W2's in the place of M1, and its bounds, through the compiled services.
 
 use second::setting::Setting;
 
-use crate::compiled::{curve, distribution, invoice_ore, periodisation, reconciliation, residual};
+use crate::compiled::{curve, distribution, invoice, periodisation, reconciliation, residual};
 
 fn residual_of_one(status: u8, flows: (i64, u64, u64, u64)) -> Result<Vec<u32>, (u8, usize)> {
     let (net, production, hourly, flex) = flows;
@@ -43,14 +43,35 @@ fn p1_p2_p3() {
     assert_eq!(periodisation(0, &[0, 0], 2), Ok(vec![0, 0]));
 }
 
+/// "The example becomes 1, 0, -1. Case M1 is replaced by this one" (02, W2), and others by hand.
 #[test]
-fn m1() {
-    assert_eq!(invoice_ore(500_000), 1);
-    assert_eq!(invoice_ore(-500_000), -1);
-    assert_eq!(invoice_ore(499_999), 0);
+fn w2() {
+    let ore = |amounts: &[i64]| invoice(amounts, amounts.len());
+    assert_eq!(ore(&[500_000, 500_000, -1_000_000]), Ok(vec![1, 0, -1]));
+    assert_eq!(ore(&[-500_000, -500_000, 1_000_000]), Ok(vec![0, -1, 1]));
+    assert_eq!(ore(&[-300_000, 300_000]), Ok(vec![0, 0]));
+    assert_eq!(
+        ore(&[250_000, 250_000, 250_000, -750_000]),
+        Ok(vec![1, 0, 0, -1])
+    );
+    assert_eq!(
+        ore(&[750_000, 500_000, -500_000, -1_250_000, 500_000]),
+        Ok(vec![1, 1, -1, -1, 0])
+    );
+    assert_eq!(ore(&[0]), Ok(vec![0]));
+    assert_eq!(ore(&[1]), Err((4, 0)));
+    assert_eq!(
+        ore(&[i64::MIN, i64::MAX, 1]),
+        Ok(vec![-9_223_372_036_855, 9_223_372_036_855, 0])
+    );
+    // Sums of 64 bits would come to 0.
+    assert_eq!(ore(&[1 << 62; 4]), Err((4, 0)));
+    assert_eq!(ore(&[i64::MIN; 2]), Err((4, 0)));
+    assert_eq!(invoice(&[1], 2), Err((16, 0)));
+    assert_eq!(invoice(&[], 1), Err((16, 0)));
 }
 
-/// S1 (H2 6.3) service by service: the curve, the distributed figures, and each hour reconciled at its price.
+/// S1 (H2 6.3) service by service: the curve, the distributed figures, each hour reconciled at its price, the invoices.
 #[test]
 fn s1() {
     let file = second::examples::s1().bytes();
@@ -80,6 +101,9 @@ fn s1() {
             amounts_dkk[hour].map(|dkk: f64| (dkk * 1e8) as i64)
         );
     }
+    let sums = month.party_sums();
+    let amounts: Vec<i64> = sums.iter().map(|sums| sums.amount_millionths).collect();
+    assert_eq!(invoice(&amounts, 3), Ok(vec![266_850, -382_800, 115_950]));
 }
 
 #[test]
@@ -91,6 +115,8 @@ fn the_bounds_are_accepted_and_one_more_is_refused() {
     assert_eq!(distribution(&[1], &[1; 746], 746), Err((4, 0)));
     assert!(reconciliation(0, &[0; 64], &[0; 64], 63, 0, 64, 64).is_ok());
     assert!(reconciliation(0, &[0; 65], &[0; 65], 0, 0, 65, 65) == Err((4, 0)));
+    assert_eq!(invoice(&[0; 64], 64), Ok(vec![0; 64]));
+    assert_eq!(invoice(&[0; 65], 65), Err((4, 0)));
     assert!(periodisation(1, &[1; 8_784], 8_784).is_ok());
     assert_eq!(periodisation(1, &[1; 8_785], 8_785), Err((11, 0)));
     assert!(periodisation(1_000_000_000, &[5], 1).is_ok());
@@ -117,4 +143,6 @@ fn far_too_long_and_empty() {
     let too_many = reconciliation(7, &nets, &small, usize::MAX, i64::MIN, long, long);
     assert_eq!(too_many, Err((4, 0)));
     assert_eq!(reconciliation(0, &[], &[], 0, 0, 0, 0), Err((4, 0)));
+    assert_eq!(invoice(&nets, long), Err((4, 0)));
+    assert_eq!(invoice(&[], 0), Err((4, 0)));
 }

@@ -53,7 +53,12 @@ extern "C" {
         amounts_len: usize,
         loss: *mut i64,
     ) -> u64;
-    fn settle_invoice_ore(amount: i64) -> i64;
+    fn settle_invoice(
+        amounts: *const i64,
+        amounts_len: usize,
+        out: *mut i64,
+        out_len: usize,
+    ) -> u64;
 }
 
 /// What stands in a lent output before a call.
@@ -188,7 +193,11 @@ pub fn reconciliation(
     told(answer, (loss, differences, amounts), unchanged)
 }
 
-pub fn invoice_ore(amount: i64) -> i64 {
-    // SAFETY: it takes and gives one number.
-    unsafe { settle_invoice_ore(amount) }
+pub fn invoice(amounts: &[i64], lent: usize) -> Told<Vec<i64>> {
+    let mut out = vec![i64::from(PATTERN); lent];
+    // SAFETY: as above.
+    let answer =
+        unsafe { settle_invoice(amounts.as_ptr(), amounts.len(), out.as_mut_ptr(), out.len()) };
+    let unchanged = out.iter().all(|&figure| figure == i64::from(PATTERN));
+    told(answer, out, unchanged)
 }

@@ -559,25 +559,97 @@ fn reconciliation() {
     reached.assert_all("reconciliation", expected);
 }
 
-#[test]
-fn invoice() {
-    for number in 0..INPUTS {
-        let mut random = Random::of_file(46, number);
-        let whole = random.between(-20_000_000, 20_000_000) * 500_000;
-        let any = random.bits() as i64;
-        let small = random.between(-3_000_000, 3_000_000);
-        for amount in [
-            near(&mut random, whole),
-            any,
-            any >> random.below(64),
-            small,
-        ] {
-            let expected = second::reconciliation::invoice_ore(amount);
-            assert_eq!(compiled::invoice_ore(amount), expected, "{amount}");
+/// Amounts of a month: small or of any size, or a few quarters or tenths of an øre, so that many remainders are equal; and
+/// one of them balances the others.
+fn balanced_amounts(random: &mut Random, parties: usize) -> Vec<i64> {
+    let style = random.below(5);
+    let mut amounts: Vec<i64> = (0..parties)
+        .map(|_| match style {
+            0 => random.between(-3_000_000, 3_000_000),
+            // So small that those of 64 parties add up within 64 bits.
+            1 => random.bits() as i64 >> (6 + random.below(58)),
+            2 => random.between(-9, 9) * 250_000,
+            3 => random.between(-40, 40) * 100_000,
+            _ => random.between(-9, 9) * 1_000_000 + random.between(-1, 1),
+        })
+        .collect();
+    balance(random, &mut amounts);
+    amounts
+}
+
+/// Sets one of the amounts so that all add up to 0, as 64 bits count.
+fn balance(random: &mut Random, amounts: &mut [i64]) {
+    if amounts.is_empty() {
+        return;
+    }
+    let balancing = random.below(amounts.len());
+    amounts[balancing] = 0;
+    let sum = amounts.iter().fold(0i64, |sum, &a| sum.wrapping_add(a));
+    amounts[balancing] = sum.wrapping_neg();
+}
+
+/// Other amounts. Fault 0 is of the lent output alone.
+fn damage_amounts(random: &mut Random, amounts: &mut Vec<i64>, fault: usize) {
+    if amounts.is_empty() {
+        return;
+    }
+    let party = random.below(amounts.len());
+    match fault {
+        0 => {}
+        1 => {
+            let parties = *random.pick(&[0, 1, 63, 64, 65, 66]);
+            *amounts = balanced_amounts(random, parties);
+        }
+        2 => amounts[party] = amounts[party].wrapping_add(*random.pick(&[1, -1])),
+        3 => amounts[party] = *random.pick(&[i64::MIN, i64::MAX, 0]),
+        // Their wrapped sum is 0, their true sum at times.
+        4 => {
+            let extremes = [i64::MIN, i64::MAX, i64::MIN + 1, 1 << 62, -(1 << 62)];
+            let any = random.once_in(2);
+            for amount in amounts.iter_mut() {
+                let bits = random.bits() as i64;
+                *amount = if any { bits } else { *random.pick(&extremes) };
+            }
+            balance(random, amounts);
+        }
+        // Large ones, then their opposites: on the way to 0 the sum passes 64 bits.
+        _ => {
+            let pairs = amounts.len() / 2;
+            let large = i64::MAX - random.below(2_000_000) as i64;
+            amounts.fill(0);
+            amounts[..pairs].fill(large);
+            amounts[pairs..2 * pairs].fill(-large);
         }
     }
-    for amount in [i64::MIN, i64::MIN + 1, i64::MAX, i64::MAX - 1, 0, 1, -1] {
-        let expected = second::reconciliation::invoice_ore(amount);
-        assert_eq!(compiled::invoice_ore(amount), expected, "{amount}");
+}
+
+#[test]
+fn invoice() {
+    let mut reached = Reached::default();
+    for number in 0..INPUTS {
+        let mut random = Random::of_file(46, number);
+        let parties = size(&mut random, 64, 5);
+        let mut amounts = balanced_amounts(&mut random, parties);
+        let faults = faults(&mut random, 6);
+        for &fault in &faults {
+            damage_amounts(&mut random, &mut amounts, fault);
+        }
+        let mut lent = amounts.len();
+        if faults.contains(&0) {
+            lent = other_length(&mut random, lent);
+        }
+        let expected = of_second(second::invoice::invoice(&amounts, lent));
+        let told = compiled::invoice(&amounts, lent);
+        assert_eq!(told, expected, "input {number}: {amounts:?}");
+        reached.count(&faults, &told);
     }
+    let expected: &[(usize, &[u8])] = &[
+        (0, &[16]),
+        (1, &[0, 4]),
+        (2, &[4]),
+        (3, &[0, 4]),
+        (4, &[0, 4]),
+        (5, &[0]),
+    ];
+    reached.assert_all("invoice", expected);
 }
