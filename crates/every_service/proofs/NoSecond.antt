@@ -44,7 +44,7 @@ services =
           let e = reconciliation-once p q in
           (e .0, λ i. record { differences = e .1 .0 i; amounts = e .1 .1 i });
       loss-of = λ party carrier loss. one-value _;
-      invoice-ore = λ amount. one-value _;
+      invoice = λ amounts lent. one-answered _ _ lent;
     }
 
 one-numbered : {A : Type 0} (verdict : Verdict) (figures lent : List A) → OneFitsWith (Numbered verdict figures lent)
@@ -69,7 +69,7 @@ services-for-C =
                   loss = (p .holds-loss ∙ sym (q .holds-loss)) i;
                 },
           );
-      invoice-ore = λ amount. one-value _;
+      invoice = λ amounts lent. one-numbered _ _ lent;
     }
 
 records : Records

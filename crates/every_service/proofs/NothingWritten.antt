@@ -59,6 +59,7 @@ nothing-written =
             differences = left _ _ _ refuses (p .holds-differences) i;
             amounts = left _ _ _ refuses (p .holds-amounts) i;
           };
+      invoice = λ amounts lent. answered _ _ lent;
       residual-for-C = λ statuses nets productions hourlies flexes lent. numbered _ _ lent;
       curve-for-C = λ residuals w lent. numbered _ _ lent;
       distribution-for-C = λ shares residuals lent. numbered _ _ lent;
@@ -70,6 +71,7 @@ nothing-written =
             amounts = left _ _ _ (not-zero _ (p .answer) some) (p .holds-amounts) i;
             loss = number-left _ _ _ (not-zero _ (p .answer) some) (p .holds-loss) i;
           };
+      invoice-for-C = λ amounts lent. numbered _ _ lent;
       write = λ r gln lent. wrote-nothing _ lent _;
       write-plain = λ kind numbers gln lent. wrote-nothing _ lent _;
       month-settle =

@@ -13,6 +13,7 @@ use Rattle.distribute_service.specs.Promised as Distribution
 use Rattle.every_service.specs.Lent.{HourLists, HourPromised, HourForC, HourForCPromised, RunOutputs, RunPromised, ReportBuffers, ReportPromised}
 use Rattle.file_sections.specs.Walk as File
 use Rattle.gln.specs.Promised as Gln
+use Rattle.invoice_service.specs.Promised as Invoice
 use Rattle.month_demands.specs.Demands as Month
 use Rattle.periodise_service.specs.Promised as Periodisation
 use Rattle.reconcile.specs.Promised as Reconcile
@@ -50,7 +51,7 @@ pub record Services : Type 0 where
       (residual : ℕ) (distributed : List ℤ) (periodised : List ℕ) (carrier : ℕ) (price : ℤ) (lent : HourLists)
       → OneFitsWith (HourPromised residual distributed periodised carrier price lent)
   pub loss-of : (party carrier : ℕ) (loss : ℤ) → OneFits (Reconcile.LossOfPromised party carrier loss)
-  pub invoice-ore : (amount : ℤ) → OneFits (Reconcile.InvoiceOrePromised amount)
+  pub invoice : (amounts lent : List ℤ) → OneFitsWith (Invoice.Promised amounts lent)
 
 -- THE SAME FOR C: a number for the answer
 pub record ServicesForC : Type 0 where
@@ -63,7 +64,7 @@ pub record ServicesForC : Type 0 where
   pub reconciliation :
       (residual : ℕ) (distributed : List ℤ) (periodised : List ℕ) (carrier : ℕ) (price : ℤ) (lent : HourForC)
       → OneFitsWith (HourForCPromised residual distributed periodised carrier price lent)
-  pub invoice-ore : (amount : ℤ) → OneFits (Reconcile.InvoiceOrePromised amount)
+  pub invoice : (amounts lent : List ℤ) → OneFitsWith (C.InvoicePromised amounts lent)
 
 -- ONE RECORD
 pub record Records : Type 0 where

@@ -9,6 +9,7 @@ use Rattle.answer.specs.Said.{said}
 use Rattle.curve_numbers.specs.Promised as Curve
 use Rattle.distribute_service.specs.Promised as Distribution
 use Rattle.every_service.specs.Lent.{HourLists, HourPromised, HourForC, HourForCPromised, RunOutputs, RunPromised, ReportBuffers, ReportPromised}
+use Rattle.invoice_service.specs.Promised as Invoice
 use Rattle.month_demands.specs.Demands as Month
 use Rattle.month_sums.specs.Told as Month′
 use Rattle.periodise_service.specs.Promised as Periodisation
@@ -58,6 +59,7 @@ pub record NothingWritten : Type 0 where
   pub reconciliation :
       (residual : ℕ) (distributed : List ℤ) (periodised : List ℕ) (carrier : ℕ) (price : ℤ) (lent : HourLists)
       → Unwritten (Refuses Hour.verdict) lent (HourPromised residual distributed periodised carrier price lent)
+  pub invoice : (amounts lent : List ℤ) → Unwritten (Refuses said) lent (Invoice.Promised amounts lent)
   pub residual-for-C :
       (statuses : List ℕ) (nets : List ℤ) (productions hourlies flexes lent : List ℕ)
       → Unwritten NotZero lent (C.ResidualPromised statuses nets productions hourlies flexes lent)
@@ -67,6 +69,7 @@ pub record NothingWritten : Type 0 where
   pub reconciliation-for-C :
       (residual : ℕ) (distributed : List ℤ) (periodised : List ℕ) (carrier : ℕ) (price : ℤ) (lent : HourForC)
       → Unwritten NotZero lent (HourForCPromised residual distributed periodised carrier price lent)
+  pub invoice-for-C : (amounts lent : List ℤ) → Unwritten NotZero lent (C.InvoicePromised amounts lent)
   pub write : (r : Record) (gln lent : List ℕ) → Unwritten (Refuses wroteVerdict) lent (Write.Promised r gln lent)
   pub write-plain :
       (kind : ℕ) (numbers : List ℤ) (gln lent : List ℕ)

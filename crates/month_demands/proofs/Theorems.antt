@@ -27,11 +27,13 @@ use Rattle.rules.specs.Services.{atℤ}
 use Rattle.rules.specs.Setting.{final, provisional}
 use Rattle.rules.specs.Setting as R
 use Rattle.rules.specs.WellFormed.{Bytes}
-use Rattle.rules.specs.Words.{sum, sumℤ, at, figures}
+use Rattle.rules.specs.Statement.{columnsLine, totalLine}
+use Rattle.rules.specs.Words.{sum, sumℤ, at, ascii, figures}
 use Rattle.rules.proofs.Integers.{sumℤ-cong, sumℤ-swap}
+use Rattle.rules.proofs.Invoice.{column-of}
 use Rattle.rules.proofs.Readings.{accepted-month-of-readings}
 use Rattle.rules.proofs.Loops.{figures-length, figures-at}
-use Rattle.rules.proofs.Month.{Judged, accepted-is-judged, heading-right, W-in-range, fixed-hours-have, every-hour-has-its-figure, demand-3-of-the-month, hour-differences-add-up, all-distributed, all-differences, all-amounts}
+use Rattle.rules.proofs.Month.{Judged, accepted-is-judged, heading-right, W-in-range, fixed-hours-have, every-hour-has-its-figure, demand-3-of-the-month, hour-differences-add-up, all-distributed, all-differences, all-amounts, month-invoice-column}
 use Rattle.rules.proofs.ReadingRefused.{reading-refused-exactly}
 use Rattle.rules.proofs.Reconciliation.{one-carries-the-loss}
 use Rattle.rules.proofs.Refusals.{refused-not-accepted, accepted-exactly, refused-exactly, both-accept, unless-exactly, verdict-back}
@@ -178,6 +180,16 @@ all-periodised : (m : MonthFile) → sum (P m) (monthPeriodised m) ≡ sum (H m)
 unfolding monthPeriodised allPeriodised
 all-periodised m = sum-swap (P m) (H m) (periodised m)
 
+-- THE TOTAL LINE of the statement: both columns of differences and of whole øre show 0
+the-total-line :
+    (m : MonthFile)
+    → Judged m
+    → totalLine m
+    ≡ columnsLine (ascii "total") (pos (sum (H m) (appliedWh m))) (sum (H m) (allPeriodised m)) (sumℤ (H m) (loss m)) (pos 0) (pos 0)
+unfolding totalLine
+the-total-line m judged =
+    rw (all-distributed m judged, all-periodised m, all-losses m judged, all-differences m judged, month-invoice-column m judged .adds-up) refl
+
 since-first : (m : MonthFile) (i : ℕ) → monthDistributed m i ≡ sumSinceFirst (P m) (shareOf m) (appliedWh m) (H m) i
 unfolding monthDistributed distributed sumSinceFirst sumOver
 since-first m i =
@@ -275,6 +287,8 @@ module _ {setting : Setting} {file : List ℕ} {r : Settlement} (lent held : Out
           total-distributed = signed-column (P m) (monthDistributed m) holds-distributed ∙ all-distributed m judged;
           total-difference = signed-column (P m) (monthDifference m) holds-differences ∙ all-differences m judged;
           total-amount = signed-column (P m) (monthAmount m) holds-amounts ∙ all-amounts m judged;
+          invoice-column = column-of (P m) (signed-at (P m) (monthAmount m) holds-amounts) (month-invoice-column m judged);
           total-periodised = unsigned-column (P m) (monthPeriodised m) holds-periodised ∙ all-periodised m;
           total-loss = signed-column (P m) (monthLoss m) holds-losses ∙ all-losses m judged;
+          total-line = the-total-line m judged;
         }

@@ -14,16 +14,18 @@ use Rattle.setting.specs.declared.Setting.{Setting}
 use Rattle.rules.specs.Accepted.{NoneRefuses, FirstRefuses}
 use Rattle.rules.specs.Demands.{sumSinceFirst, Demand3}
 use Rattle.rules.specs.Flows.{residual}
+use Rattle.rules.specs.Invoice.{InvoiceColumn}
 use Rattle.rules.specs.Limits.{greatestW, greatestResidual}
-use Rattle.rules.specs.Month.{flowsAt, shareOf, monthW, appliedFlows, appliedWh, distributed, periodised, allPeriodised, loss, difference, amount, readEnergy, monthChecks}
+use Rattle.rules.specs.Month.{flowsAt, shareOf, monthW, appliedFlows, appliedWh, distributed, periodised, allPeriodised, loss, difference, amount, invoice, readEnergy, monthChecks}
 use Rattle.rules.specs.MonthFile.{MonthFile, H, P, readMonth}
 use Rattle.rules.specs.Reconciliation.{lossOf}
 use Rattle.rules.specs.ReadingRefused.{ReadingRefuses}
 use Rattle.rules.specs.Refusals.{Refusal, wrongLength, given}
 use Rattle.rules.specs.Services.{atℤ}
 use Rattle.rules.specs.Setting.{final}
+use Rattle.rules.specs.Statement.{columnsLine, totalLine}
 use Rattle.rules.specs.WellFormed.{WellFormed, fileOf}
-use Rattle.rules.specs.Words.{sum, sumℤ, at}
+use Rattle.rules.specs.Words.{sum, sumℤ, at, ascii}
 
 -- the lent outputs of the call, by their names: what they hold before it, or once it has answered
 pub record Outputs : Type 0 where
@@ -123,7 +125,14 @@ pub record MonthMeets (setting : Setting) (file : List ℕ) (m : MonthFile) (hel
   pub total-difference : sumℤ (P m) (atℤ (held .differences)) ≡ pos 0
   -- the exact amounts too add up to 0: an hour's differences have one price
   pub total-amount : sumℤ (P m) (atℤ (held .amounts)) ≡ pos 0
+  -- W2: "The invoice column must add up to zero.": each party's exact amount rounded down or up to whole øre, the øre missing from zero to the largest remainders
+  pub invoice-column : InvoiceColumn (P m) (atℤ (held .amounts)) (invoice m)
   -- total periodised is the sum of "all periodised consumption" of each hour
   pub total-periodised : sum (P m) (at (held .periodised)) ≡ sum (H m) (allPeriodised m)
   -- total loss is the sum of the hours' grid losses, of either sign
   pub total-loss : sumℤ (P m) (atℤ (held .losses)) ≡ sumℤ (H m) (loss m)
+  -- "a line `total` with the column sums": of the distributed the applied residuals, of the periodised and of the loss those of the hours, and 0 of the differences
+  -- and of the whole øre
+  pub total-line :
+      totalLine m
+      ≡ columnsLine (ascii "total") (pos (sum (H m) (appliedWh m))) (sum (H m) (allPeriodised m)) (sumℤ (H m) (loss m)) (pos 0) (pos 0)

@@ -4,7 +4,7 @@ use mathlib.Core.Bool.{Bool, true, false, cond, _&&_, _||_}
 use mathlib.Core.List.{List, [], _∷_, _++_}
 use mathlib.Core.Logic.{_⊎_, _↔_, inl, inr, ⊎-elim}
 use mathlib.Core.Path.{_≡_, refl, _∙_, ap, subst}
-use Prim.Native.Nat.{ℕ, zero, suc, _+_, _≤_, _<_, zero-le}
+use Prim.Native.Nat.{ℕ, zero, suc, _≤_, _<_, zero-le}
 use native.Mathlib.Nat.{le-refl, le-antisymm, not-suc-le-zero, le-of-suc-le-suc, eq-zero-or-pos, lt-trans}
 use native.Mathlib.Omega.{arith}
 use borrow.Author.Tests.{ltb-true, leb-true, eqb-true, lt-ltb, le-leb}
@@ -19,7 +19,7 @@ use Rattle.rules.specs.Limits.{greatestArea, earliestYear, latestYear, m
 use Rattle.rules.specs.MonthFile.{MonthFile, nothingYet, H, P, due, risesAfter, recordChecks, with, isEnd, closed, onward, readOn, readMonth}
 use Rattle.rules.specs.Record.{Heading, Party, Reading, Record, heading, party, fixedHour, reading, price, refixedHour, end, bodyLength, recordAt}
 use Rattle.rules.specs.Record.{inFile, headingInRange, hourInRange, checks}
-use Rattle.rules.specs.Refusals.{Refusal, fileFault, Verdict, accepted, refused, Answer, given, refusal, first}
+use Rattle.rules.specs.Refusals.{fileFault, Verdict, accepted, refused, Answer, given, refusal, first}
 use Rattle.rules.specs.Services.{sameℤ}
 use Rattle.rules.specs.Setting.{Setting}
 use Rattle.rules.specs.Words.{within, withinℤ}

@@ -1,16 +1,17 @@
 -- The worked months, each by computing the definitions from the file's bytes to the printed text.
 use mathlib.Core.Path.{refl}
-use Rattle.rules.specs.WorkedMonths.{fileOf, supply, partyOf, readingOf, headingOf, S1, D3, begin, fixedHours, refixedHours, prices, small, unrefixed, closing, opening, WorkedMonths}
+use Rattle.rules.specs.WorkedMonths.{fileOf, supply, partyOf, readingOf, headingOf, S1, D3, wholeOre, begin, fixedHours, refixedHours, prices, small, unrefixed, closing, opening, WorkedMonths}
 use Rattle.rules.proofs.Computed.{words, hours, parts, records, files, months, texts, reports}
 
 pub worked-months : WorkedMonths
-unfolding words hours parts records files months texts reports fileOf supply partyOf readingOf headingOf S1 D3 begin fixedHours refixedHours prices small unrefixed closing opening
+unfolding words hours parts records files months texts reports fileOf supply partyOf readingOf headingOf S1 D3 wholeOre begin fixedHours refixedHours prices small unrefixed closing opening
 worked-months =
     record {
       S1-lines = refl;
       S1-report = refl;
       D3-lines = refl;
       D3-report = refl;
+      whole-ore-lines = refl;
       report-refused = refl;
       curve-from-fixed = refl;
       report-of-both-series = refl;

@@ -1,6 +1,6 @@
 -- Whole month files and what the rules give for each, from the file's bytes to the printed text: input S1 of 01 with its five lines, and the case D3 as a
--- month, both with the reviewer's report; a small month whose figures can be followed by hand; and each refusal 1 to 15 and 17 once, two faults at a time where an
--- order shows. Proved in proofs/WorkedMonths, by computing the definitions.
+-- month, both with the reviewer's report; a month of parts of an øre (W2); a small month whose figures can be followed by hand; and each refusal 1 to 15 and 17
+-- once, two faults at a time where an order shows. Proved in proofs/WorkedMonths, by computing the definitions.
 use mathlib.Core.List.{List, [], _∷_, _++_}
 use mathlib.Core.Path.{_≡_}
 use Prim.Native.Nat.{ℕ}
@@ -83,6 +83,32 @@ D3 =
     ∷ end 12
     ∷ [])
 
+-- W2 as a month: exact amounts of 0.75, 0.5, -0.5, -1.25 and 0.5 øre, of which three øre are missing once they are rounded down, the last of them given by a tie.
+-- examples/README.md works it out by hand; the file is examples/ore.month.
+unfoldable pub wholeOre : List ℕ
+wholeOre =
+    fileOf
+    (headingOf 5 2016 8 2 5 3
+    ∷ partyOf "0000000000017" 1
+    ∷ partyOf "0000000000024" 1
+    ∷ partyOf "0000000000031" 1
+    ∷ partyOf "0000000000048" 1
+    ∷ partyOf "0000000000055" 1
+    ∷ fixedHour 0 (supply measured (pos 10))
+    ∷ fixedHour 1 (supply measured (pos 5))
+    ∷ refixedHour 0 (supply measured (pos 10))
+    ∷ refixedHour 1 (supply measured (pos 5))
+    ∷ price 0 (pos 250000)
+    ∷ price 1 (negsuc 499999)
+    ∷ readingOf 0 0 1 3
+    ∷ readingOf 1 0 1 4
+    ∷ readingOf 1 1 2 1
+    ∷ readingOf 2 0 1 2
+    ∷ readingOf 2 1 2 2
+    ∷ readingOf 4 0 1 2
+    ∷ end 18
+    ∷ [])
+
 -- A month of two hours and two parties of equal shares; the second party's one reading runs over both hours. Its parts can be put in faulty.
 unfoldable pub begin : ℕ → ℕ → List Record
 begin share0 share1 =
@@ -134,6 +160,10 @@ pub record WorkedMonths : Type 0 where
       hoursReport final D3
       ≡ ascii
       "area 003 2016-06 hours 2 parties 3 estimated 1\n0 measured measured 10 10 714285 10 5 5\n1 estimated estimated 1 1 71428 1 3 -2\n0000000000017 -4/14 4/14\n0000000000024 -4/14 4/14\n0000000000031 -8/14 8/14\n"
+  pub whole-ore-lines :
+      statement final wholeOre
+      ≡ ascii
+      "area 005 2016-08 hours 2 parties 5 estimated 0\n0000000000017 3 3 0 0 1\n0000000000024 3 5 0 2 1\n0000000000031 3 4 0 1 -1\n0000000000048 3 0 1 -2 -1\n0000000000055 3 2 0 -1 0\ntotal 15 14 1 0 0\n"
   pub report-refused : hoursReport final [] ≡ ascii "refused 1 at 0\n"
   -- "The curve always comes from the fixed one": 1 and 3, so E = 4 falls 1 and 3 (by the refixed 2 and 2 it would fall 2 and 2). The second party has 1
   -- and 1 distributed, so its differences are 0 and 2. Applied hours with status 2: one, the refixed hour 1.

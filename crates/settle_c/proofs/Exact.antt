@@ -15,7 +15,7 @@ use Rattle.rules.specs.Flows.{Judgement, figure, noFigure, judged, verdictOf}
 use Rattle.rules.specs.Limits.{mostHours, mostParties, mostWeights}
 use Rattle.rules.specs.Refusals.{Refusal, Verdict, accepted, refused, unless, andThen, first, inTurn, numberOf, outOfRange}
 use Rattle.rules.specs.Services.{checkAt, eachAt, checkAtℤ, eachAtℤ, flowsOf, silentCheck, hourCheck}
-use Rattle.rules.specs.Services.{residualChecks, curveChecks, distributionChecks, periodisationChecks, reconciliationChecks}
+use Rattle.rules.specs.Services.{residualChecks, curveChecks, distributionChecks, periodisationChecks, reconciliationChecks, invoiceChecks}
 use Rattle.rules.specs.Words.{figures, within}
 use Rattle.settle_c.specs.Coded.{coded}
 use Rattle.settle_c.proofs.Told.{within-place}
@@ -155,6 +155,13 @@ reconciliation-early residual distributed periodised carrier price lentDifferenc
     first-early _ _ (unless-early _ _ 0 (omega arith)) (λ _.
     first-early _ _ (unless-early _ _ 0 (omega arith)) (λ _.
     last-early _ (unless-early _ _ 0 (omega arith))))))))))
+
+pub invoice-early : (amounts : List ℤ) (lent : ℕ) → Early (first (invoiceChecks amounts lent))
+unfolding invoiceChecks
+invoice-early amounts lent =
+    first-early _ _ (unless-early _ _ 0 (omega arith)) (λ _.
+    first-early _ _ (unless-early _ _ 0 (omega arith)) (λ _.
+    last-early _ (unless-early _ _ 0 (omega arith))))
 
 -- number + 256 x place, exactly
 pub exact : (r : Refusal) (place : ℕ) → place < mostWeights → coded (refused r place) ≡ numberOf r + 256 * place

@@ -1,5 +1,5 @@
 -- The promises, each said once: a function's `ensures` cites it by its name, and so does what is proved of every service (`every_service`). Each is its service's,
--- with a number for the answer; `settle_invoice_ore` promises what `reconcile::invoice_ore` does.
+-- with a number for the answer.
 use mathlib.Core.List.{List}
 use mathlib.Core.Path.{_≡_}
 use Prim.Native.Nat.{ℕ}
@@ -7,7 +7,7 @@ use lib.IntN.{ℤ}
 use lib.ListN.{length}
 use Rattle.rules.specs.Refusals.{Verdict, first, afterwards}
 use Rattle.rules.specs.Services.{residualChecks, residualFigures, curveChecks, curveFigures, distributionChecks, distributionFigures}
-use Rattle.rules.specs.Services.{periodisationChecks, periodisationFigures, reconciliationChecks, reconciliationLoss, reconciliationDifferences, reconciliationAmounts}
+use Rattle.rules.specs.Services.{periodisationChecks, periodisationFigures, reconciliationChecks, reconciliationLoss, reconciliationDifferences, reconciliationAmounts, invoiceChecks, invoiceFigures}
 use Rattle.settle_c.specs.Coded.{coded, kept}
 
 -- a verdict's number, and what one lent list then holds
@@ -55,3 +55,7 @@ pub record ReconciliationPromised
       amounts′
       ≡ afterwards (hourVerdict residual distributed periodised carrier price differences amounts)
       (reconciliationAmounts (reconciliationDifferences residual distributed periodised carrier) price) amounts
+
+-- `settle_invoice`
+abbrev pub InvoicePromised : List ℤ → List ℤ → ℕ → List ℤ → Type 0
+InvoicePromised amounts lent = Numbered (first (invoiceChecks amounts (length lent))) (invoiceFigures amounts) lent

@@ -4,9 +4,8 @@ use answer::Answer;
 use reconcile_service::Reconciled;
 ghost use mathlib.Core.Path.{_≡_};
 ghost use Rattle.answer.specs.Said.{said};
-ghost use Rattle.reconcile.specs.Promised.{InvoiceOrePromised};
 ghost use Rattle.settle_c.specs.Coded.{numberAt, coded};
-ghost use Rattle.settle_c.specs.Promised.{ResidualPromised, CurvePromised, DistributionPromised, PeriodisationPromised, ReconciliationPromised};
+ghost use Rattle.settle_c.specs.Promised.{ResidualPromised, CurvePromised, DistributionPromised, PeriodisationPromised, ReconciliationPromised, InvoicePromised};
 
 // Up to this place, 2 ^ 56 - 1, number + 256 x place is within 64 bits. Every service refuses far below it.
 const GREATEST_PLACE: usize = 72_057_594_037_927_935;
@@ -115,10 +114,11 @@ pub extern "C" fn settle_reconciliation(
     }
 }
 
-// INVOICE: whole øre of one exact amount, nearest, halves away from zero. Refuses nothing.
+// INVOICE: the whole øre of each exact amount into `out_ore`, adding up to 0.
 #[no_mangle]
-pub extern "C" fn settle_invoice_ore(amount_millionths: i64) -> i64
-    ensures { λ r. ⌜ InvoiceOrePromised «amount_millionths» r ⌝ }
+pub extern "C" fn settle_invoice(amounts_millionths: &[i64], out_ore: &mut [i64]) -> u64
+    ensures { λ r. ⌜ InvoicePromised (now («amounts_millionths» .entry)) (now («out_ore» .entry)) r (now («out_ore» .exit)) ⌝ }
 {
-    reconcile::invoice_ore(amount_millionths)
+    let answered = invoice_service::invoice(amounts_millionths, out_ore);
+    code(answered)
 }
