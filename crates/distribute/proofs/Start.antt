@@ -2,7 +2,7 @@
 use mathlib.Core.Bool.{cond}
 use mathlib.Core.List.{List}
 use mathlib.Core.Path.{_≡_, refl, sym, _∙_, ap}
-use Prim.Native.Nat.{ℕ, _-_, _%_, _<_, zero-le}
+use Prim.Native.Nat.{ℕ, _%_, _<_, zero-le}
 use native.Mathlib.Nat.{mul-zero, zero-mod, zero-sub}
 use native.Mathlib.Omega.{arith}
 use borrow.Author.Tests.{le-ltb}

@@ -1,7 +1,7 @@
 -- A REFUSED CALL HAS WRITTEN NOTHING, for every public service that is lent something: one law over `afterwards`, cited for each lent buffer.
 use mathlib.Core.List.{List}
 use mathlib.Core.Path.{_≡_, refl, sym, _∙_, ap}
-use Prim.Native.Nat.{ℕ, _<_}
+use Prim.Native.Nat.{ℕ}
 use native.Mathlib.Omega.{arith}
 use Rattle.answer.specs.Promised.{Answered}
 use Rattle.answer.specs.Said.{said}

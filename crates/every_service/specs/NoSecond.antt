@@ -27,7 +27,6 @@ use Rattle.setting.specs.Asked as Asked
 use Rattle.setting.specs.declared.Setting.{Setting}
 use Rattle.settle_c.specs.Promised as C
 use Rattle.statement_text.specs.Stating as Statement
-use lib.ListN.{length}
 
 -- no second answer fits a promise
 unfoldable pub OneFits : {Result : Type 0} → (Result → Type 0) → Type 0

@@ -3,7 +3,7 @@
 -- roundings meet; and of two shares the larger has the larger floor or, the floors being equal, the larger remainder.
 use mathlib.Core.Logic.{_⊎_, inl, inr, ⊎-elim}
 use mathlib.Core.Path.{_≡_, sym, _∙_, ap, ap₂}
-use Prim.Native.Nat.{ℕ, suc, _+_, _-_, _*_, _/_, _≤_, _<_}
+use Prim.Native.Nat.{ℕ, suc, _+_, _*_, _/_, _≤_, _<_}
 use native.Mathlib.Nat.{div-add-mod', mod-lt, le-of-mul-le-mul-right, lt-of-mul-lt-mul-right, le-of-lt, eq-zero-or-pos, eq-or-lt-of-le}
 use native.Mathlib.Nat.{mul-le-mul-right, mul-add, mul-zero, div-eq-of-lt-le, add-zero, zero-add, zero-mul}
 use native.Mathlib.Omega.{arith}
