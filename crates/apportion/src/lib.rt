@@ -1,5 +1,6 @@
 // The largest-remainder rule alone (01 "Distributed consumption": "go one each to the parties with the largest remainders; of equal remainders the lower party
-// number comes first"), over any remainders and any count to be handed out. Nothing here knows of shares, of W or of hours: `distribute` does.
+// number comes first"; 02, W2: "one each to the largest remainders, lower party number first"), over any remainders and any count to be handed out. Nothing here
+// knows of shares, of W, of hours or of øre: `distribute` and `invoice` do.
 ghost use mathlib.Core.Path.{_≡_};
 ghost use Prim.Native.Nat.{_≤_};
 ghost use Rattle.apportion.specs.Filled.{Filled};

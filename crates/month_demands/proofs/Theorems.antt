@@ -26,14 +26,15 @@ use Rattle.rules.specs.Refusals.{Refusal, wrongLength, Verdict, accepted, refus
 use Rattle.rules.specs.Services.{atℤ}
 use Rattle.rules.specs.Setting.{final, provisional}
 use Rattle.rules.specs.Setting as R
-use Rattle.rules.specs.WellFormed.{Bytes}
 use Rattle.rules.specs.Statement.{columnsLine, totalLine}
+use Rattle.rules.specs.WellFormed.{Bytes}
 use Rattle.rules.specs.Words.{sum, sumℤ, at, ascii, figures}
 use Rattle.rules.proofs.Integers.{sumℤ-cong, sumℤ-swap}
 use Rattle.rules.proofs.Invoice.{column-of}
 use Rattle.rules.proofs.Readings.{accepted-month-of-readings}
 use Rattle.rules.proofs.Loops.{figures-length, figures-at}
-use Rattle.rules.proofs.Month.{Judged, accepted-is-judged, heading-right, W-in-range, fixed-hours-have, every-hour-has-its-figure, demand-3-of-the-month, hour-differences-add-up, all-distributed, all-differences, all-amounts, month-invoice-column}
+use Rattle.rules.proofs.Month.{Judged, accepted-is-judged, heading-right, W-in-range, fixed-hours-have, every-hour-has-its-figure, demand-3-of-the-month}
+use Rattle.rules.proofs.Month.{hour-differences-add-up, all-distributed, all-differences, all-amounts, month-invoice-column}
 use Rattle.rules.proofs.ReadingRefused.{reading-refused-exactly}
 use Rattle.rules.proofs.Reconciliation.{one-carries-the-loss}
 use Rattle.rules.proofs.Refusals.{refused-not-accepted, accepted-exactly, refused-exactly, both-accept, unless-exactly, verdict-back}
