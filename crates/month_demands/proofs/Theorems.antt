@@ -30,7 +30,7 @@ use Rattle.rules.specs.Statement.{columnsLine, totalLine}
 use Rattle.rules.specs.WellFormed.{Bytes}
 use Rattle.rules.specs.Words.{sum, sumℤ, at, ascii, figures}
 use Rattle.rules.proofs.Integers.{sumℤ-cong, sumℤ-swap}
-use Rattle.rules.proofs.Invoice.{column-of}
+use Rattle.rules.proofs.Invoice.{column-as}
 use Rattle.rules.proofs.Readings.{accepted-month-of-readings}
 use Rattle.rules.proofs.Loops.{figures-length, figures-at}
 use Rattle.rules.proofs.Month.{Judged, accepted-is-judged, heading-right, W-in-range, fixed-hours-have, every-hour-has-its-figure, demand-3-of-the-month}
@@ -288,7 +288,7 @@ module _ {setting : Setting} {file : List ℕ} {r : Settlement} (lent held : Out
           total-distributed = signed-column (P m) (monthDistributed m) holds-distributed ∙ all-distributed m judged;
           total-difference = signed-column (P m) (monthDifference m) holds-differences ∙ all-differences m judged;
           total-amount = signed-column (P m) (monthAmount m) holds-amounts ∙ all-amounts m judged;
-          invoice-column = column-of (P m) (signed-at (P m) (monthAmount m) holds-amounts) (month-invoice-column m judged);
+          invoice-column = column-as (P m) (signed-at (P m) (monthAmount m) holds-amounts) (λ i b. refl) (month-invoice-column m judged);
           total-periodised = unsigned-column (P m) (monthPeriodised m) holds-periodised ∙ all-periodised m;
           total-loss = signed-column (P m) (monthLoss m) holds-losses ∙ all-losses m judged;
           total-line = the-total-line m judged;

@@ -73,7 +73,7 @@ module _ (n : ℕ) (share : ℕ → ℕ) (some : 0 < W n share) where
       (arith, sum-add n (roundedDown n share r) (oneEach n (remainder n share r) (leftOver n share r)), floors-at-most r)
 
   -- what a party gets of the left-over Wh: none, or one and it has a remainder
-  pub gets-wh : (r i : ℕ) → (oneEach n (remainder n share r) (leftOver n share r) i ≡ 0) ⊎ ((oneEach n (remainder n share r) (leftOver n share r) i ≡ 1) × (0 < remainder n share r i))
+  gets-wh : (r i : ℕ) → (oneEach n (remainder n share r) (leftOver n share r) i ≡ 0) ⊎ ((oneEach n (remainder n share r) (leftOver n share r) i ≡ 1) × (0 < remainder n share r i))
   gets-wh r = gets (left-over r)
 
   -- A RUNNING SUM IS LESS THAN 1 WH FROM THE EXACT SHARE
