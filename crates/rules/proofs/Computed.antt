@@ -12,13 +12,16 @@ use Rattle.rules.specs.Services.{atℤ, sameℤ, checkAt, eachAt, checkA
 use Rattle.rules.specs.Services.{curveAt, curveFigures, distributionChecks, distributedAt, distributionFigures, periodisationChecks, periodisationFigures, distributedFits}
 use Rattle.rules.specs.Services.{reconciliationChecks, reconciliationLoss, reconciliationDifferences, amountAt, reconciliationAmounts, invoiceChecks, invoiceFigures}
 use Rattle.rules.specs.Record.{layouts, widthsIn, fieldWidths, totalOf, bodyLength, known, numberOnto, bytesOf, signed, unsigned, cutInto, field, numberAt, signedAt, headingFrom}
-use Rattle.rules.specs.Record.{flowsFrom, readingFrom, neverAsked, recordFrom, kindAt, recordAt, fieldBytes, inWidths, hourFields, fieldsOf, recordBytes, nothingYet, H, P, with}
+use Rattle.rules.specs.Record.{flowsFrom, readingFrom, neverAsked, recordFrom, kindAt, recordAt, fieldBytes, inWidths, hourFields, weightFields, fieldsOf, recordBytes, nothingYet, H, P, with}
 use Rattle.rules.specs.Record.{due, risesAfter, headingInRange, hourInRange, checks, readAlone, writeVerdict, written}
-use Rattle.rules.specs.PlainRecord.{noSign, nthNoSign, plainHeading, plainFlows, plainReading, plainRecord, standIn, countHeld, plainVerdict}
+use Rattle.rules.specs.PlainRecord.{noSign, nthNoSign, plainHeading, plainFlows, plainReading, plainRecord, standIn, fieldsHold, plainVerdict}
 use Rattle.rules.specs.MonthFile.{recordChecks, isEnd, closed, onward, readOn, readMonth}
-use Rattle.rules.specs.Month.{partyAt, flowsAt, readingAt, priceAt, shareOf, monthW, fixedWh, appliedFlows, appliedWh, curve, distributed, weightOf, S, readingFigure, figureFor}
+use Rattle.rules.specs.Month.{partyAt, flowsAt, readingAt, priceAt, shareOf, monthW, fixedWh, appliedFlows, appliedWh, curve, distributed, weightOf, S, weightBefore, wholeWeight}
+use Rattle.rules.specs.Month.{wholeOf, readingFigure, figureFor, weightsFit, followsWhole, readingChecks}
 use Rattle.rules.specs.Month.{periodised, allPeriodised, loss, difference, amount, monthDistributed, monthPeriodised, monthLoss, monthDifference, monthAmount, invoice, isEstimated}
 use Rattle.rules.specs.Month.{estimatedHours, refixedVerdict, hourVerdict, curveVerdict, readingVerdict, periodisedVerdict, monthChecks, monthVerdict}
+use Rattle.rules.specs.Plan.{monthCount, monthStart, curveOfMonth, partFrom, partTo, partHours, partWeight, plannedBefore, plannedWhole, plannedReading, planned}
+use Rattle.rules.specs.Plan.{readingHours, hoursVerdict, partyVerdict, partVerdict, weightVerdict, planChecks}
 use Rattle.rules.specs.Statement.{digitsIn, decimal, signedDecimal, digitsOfWidth, newline, refusalLine, provisionalEnding, headingText}
 use Rattle.rules.specs.Statement.{headingLine, columnsLine, partyLine, totalLine, statementLines}
 use Rattle.rules.specs.Statement.{judgedStatement, answeredStatement, statement}
@@ -75,7 +78,7 @@ unfolding layouts widthsIn fieldWidths totalOf bodyLength known numberOnto bytes
 records-1 = tt
 
 unfoldable pub records-2 : Unit {0}
-unfolding readingFrom neverAsked recordFrom kindAt recordAt fieldBytes inWidths hourFields fieldsOf recordBytes nothingYet H P with due risesAfter
+unfolding readingFrom neverAsked recordFrom kindAt recordAt fieldBytes inWidths hourFields weightFields fieldsOf recordBytes nothingYet H P with due risesAfter
 records-2 = tt
 
 unfoldable pub records-3 : Unit {0}
@@ -87,7 +90,7 @@ unfolding records-1 records-2 records-3
 records = tt
 
 unfoldable pub plains : Unit {0}
-unfolding noSign nthNoSign plainHeading plainFlows plainReading plainRecord standIn countHeld plainVerdict
+unfolding noSign nthNoSign plainHeading plainFlows plainReading plainRecord standIn fieldsHold plainVerdict
 plains = tt
 
 unfoldable pub files : Unit {0}
@@ -95,20 +98,32 @@ unfolding recordChecks isEnd closed onward readOn readMonth
 files = tt
 
 unfoldable pub months-1 : Unit {0}
-unfolding partyAt flowsAt readingAt priceAt shareOf monthW fixedWh appliedFlows appliedWh curve distributed weightOf S readingFigure figureFor periodised
+unfolding partyAt flowsAt readingAt priceAt shareOf monthW fixedWh appliedFlows appliedWh curve distributed weightOf S weightBefore wholeWeight wholeOf
 months-1 = tt
 
 unfoldable pub months-2 : Unit {0}
-unfolding allPeriodised loss difference amount monthDistributed monthPeriodised monthLoss monthDifference monthAmount invoice isEstimated estimatedHours
+unfolding readingFigure figureFor periodised allPeriodised loss difference amount monthDistributed monthPeriodised monthLoss monthDifference monthAmount invoice isEstimated estimatedHours
 months-2 = tt
 
 unfoldable pub months-3 : Unit {0}
-unfolding refixedVerdict hourVerdict curveVerdict readingVerdict periodisedVerdict monthChecks monthVerdict
+unfolding refixedVerdict hourVerdict curveVerdict weightsFit followsWhole readingChecks readingVerdict periodisedVerdict monthChecks monthVerdict
 months-3 = tt
 
 unfoldable pub months : Unit {0}
 unfolding months-1 months-2 months-3
 months = tt
+
+unfoldable pub plans-1 : Unit {0}
+unfolding monthCount monthStart curveOfMonth partFrom partTo partHours partWeight plannedBefore plannedWhole plannedReading planned readingHours
+plans-1 = tt
+
+unfoldable pub plans-2 : Unit {0}
+unfolding hoursVerdict partyVerdict partVerdict weightVerdict planChecks followsWhole
+plans-2 = tt
+
+unfoldable pub plans : Unit {0}
+unfolding plans-1 plans-2
+plans = tt
 
 unfoldable pub texts-1 : Unit {0}
 unfolding digitsIn decimal signedDecimal digitsOfWidth newline refusalLine provisionalEnding headingText headingLine columnsLine partyLine totalLine statementLines

@@ -16,7 +16,7 @@ use Rattle.rules.specs.MonthFile.{MonthFile, nothingYet, H, P, due, rise
 use Rattle.rules.specs.Record.{Party, Reading, Record, heading, party, fixedHour, reading, price, refixedHour, end, inFile, headingInRange, hourInRange, checks}
 use Rattle.rules.specs.ReadingRefused.{Passes, AllPass, withAll}
 use Rattle.rules.specs.Refusals.{unless, andThen, first}
-use Rattle.rules.specs.WellFormed.{Every, numbered, asParty, asReading, recordsOf, Rising, PartyRight, FlowsRight, PriceRight, ReadingRight, Whole}
+use Rattle.rules.specs.WellFormed.{Every, numbered, asParty, asReading, recordsOf, Rising, PartyRight, FlowsRight, PriceRight, ReadingRight, ReadingHeld, Whole}
 use Rattle.rules.proofs.Places.{parties-due, fixed-due, no-readings}
 use Rattle.rules.proofs.Refusals.{accepted-exactly, unless-exactly}
 use Rattle.rules.proofs.Whole.{true-not-false, Sound, nothing-is-sound, heading-facts, both-pass, rises-strictly, step}
@@ -216,7 +216,7 @@ either-way : (a : Bool) {b : Bool} → b ≡ true → a || b ≡ true
 either-way true e = refl
 either-way false e = e
 
-module _ (m : MonthFile) (w : Whole m) where
+module _ (m : MonthFile) (w : Whole m) (held : Every ReadingHeld (m .readings)) where
   abbrev to-parties : List Party → MonthFile
   to-parties l = record { heading = m .heading; parties = l; fixed = []; refixed = []; prices = []; readings = [] }
 
@@ -235,7 +235,7 @@ module _ (m : MonthFile) (w : Whole m) where
   heading-passes : (n : ℕ) → Passes nothingYet n (heading (m .heading))
   unfolding isEnd due nothingYet H checks first andThen unless
   heading-passes n =
-      record { not-the-end = refl; is-due = refl; none-refuses = accepted-exactly (checks (inFile nothingYet n) (heading (m .heading))) .0 (rw (w .head)) }
+      record { not-the-end = refl; is-due = refl; none-refuses = accepted-exactly (checks (inFile nothingYet n) (heading (m .heading))) .0 (rw (w .head)); held = tt }
 
   party-passes : (done : List Party) (x : Party) (later : List Party) → m .parties ≡ done ++ (x ∷ later) → (n : ℕ) → Passes (to-parties done) n (party x)
   unfolding isEnd due P checks first andThen unless
@@ -246,6 +246,7 @@ module _ (m : MonthFile) (w : Whole m) where
         not-the-end = refl;
         is-due = lt-ltb (length done) (P m) (not-the-last done x later e (w .all-parties));
         none-refuses = accepted-exactly (checks (inFile (to-parties done) n) (party x)) .0 (rw (le-leb (x .share) greatestShare (right .0), right .1, rises-here));
+        held = tt;
       }
 
   hour-right : (hour : ℕ) (f : Flows) → hour < H m → FlowsRight f → hourInRange (H m) hour f ≡ true
@@ -261,6 +262,7 @@ module _ (m : MonthFile) (w : Whole m) where
         not-the-end = refl;
         is-due = rw (eq-eqb (length (m .parties)) (P m) (w .all-parties), lt-ltb (length done) (H m) b, eq-eqb (length done) (length done) refl);
         none-refuses = accepted-exactly (checks (inFile (to-fixed done) n) (fixedHour (length done) x)) .0 (rw (hour-right (length done) x b right));
+        held = tt;
       }
 
   -- there are as many refixed hours as hours, where there is one
@@ -277,6 +279,7 @@ module _ (m : MonthFile) (w : Whole m) where
         not-the-end = refl;
         is-due = rw (eq-eqb (length (m .fixed)) (H m) (w .all-fixed), lt-ltb (length done) (H m) b, eq-eqb (length done) (length done) refl);
         none-refuses = accepted-exactly (checks (inFile (to-refixed done) n) (refixedHour (length done) x)) .0 (rw (hour-right (length done) x b right));
+        held = tt;
       }
 
   none-or-all : eqb (length (m .refixed)) 0 || eqb (length (m .refixed)) (H m) ≡ true
@@ -294,6 +297,7 @@ module _ (m : MonthFile) (w : Whole m) where
         not-the-end = refl;
         is-due = rw (eq-eqb (length (m .fixed)) (H m) (w .all-fixed), none-or-all, early, eq-eqb (length done) (length done) refl);
         none-refuses = accepted-exactly (checks (inFile (to-prices done) n) (price (length done) x)) .0 (rw (early, right));
+        held = tt;
       }
 
   pub hours-there : leb 1 (H m) ≡ true
@@ -312,6 +316,7 @@ module _ (m : MonthFile) (w : Whole m) where
         not-the-end = refl;
         is-due = rw (hours-there, eq-eqb (length (m .prices)) (H m) (w .all-prices));
         none-refuses = accepted-exactly (checks (inFile (to-readings done) n) (reading x)) .0 (rw (whose, rising, early, small));
+        held = there ReadingHeld done x later (subst (Every ReadingHeld) e held);
       }
 
   sections : Through (to-parties []) (numbered asParty 0 (m .parties) ++ from-fixed m) m

@@ -1,5 +1,5 @@
--- Where each record of a file stands: a file that is read has its heading at 0, then the parties, the fixed hours, the refixed hours, the prices and the
--- readings, each kind at a fixed distance. What has been read so far takes up as many bytes as its records have.
+-- Where each record of a file stands: a file that is read has its heading at 0, then the parties, the fixed hours, the refixed hours and the prices, each kind
+-- at a fixed distance, and the readings, each behind the bytes of those before it. What has been read so far takes up as many bytes as its records have.
 use mathlib.Core.Bool.{Bool, true, false, _&&_, _||_}
 use mathlib.Core.List.{List, [], _∷_, _++_}
 use mathlib.Core.Logic.{_⊎_, inl, inr, ⊎-elim}
@@ -15,15 +15,16 @@ use lib.Seq.{drop-drop, getD-at}
 use Rattle.rules.specs.Accepted.{NoneRefuses}
 use Rattle.rules.specs.Flows.{Flows}
 use Rattle.rules.specs.MonthFile.{MonthFile, nothingYet, H, P, due, recordChecks, with, isEnd, closed, readOn, readMonth}
-use Rattle.rules.specs.Record.{Heading, Party, Reading, Record, heading, party, fixedHour, reading, price, refixedHour, end, bodyLength, known, fieldWidths}
+use Rattle.rules.specs.Record.{Heading, Party, thisMonth, Reading, Record, heading, party, fixedHour, reading, price, refixedHour, end, bodyLength, known, fieldWidths}
 use Rattle.rules.specs.Record.{cutInto, kindAt, recordAt, inFile, headingInRange, checks}
 use Rattle.rules.specs.Refusals.{given, first}
 use Rattle.rules.specs.Setting.{Setting}
 use Rattle.rules.specs.WellFormed.{asParty, asReading}
-use Rattle.rules.specs.Words.{at}
+use Rattle.rules.specs.Words.{at, sum}
+use Rattle.rules.proofs.Sums.{sum-cong}
 use Rattle.rules.proofs.Whole.{Counts, Sound, before-the-heading, both-pass, heading-facts, step, nothing-is-sound, went-on, closed-gives, of-the-right-length}
 use Rattle.rules.proofs.Refusals.{accepted-exactly, unless-exactly, given-not-refusal}
-pub use Rattle.rules.proofs.EachKind.{lengthOf, length-of-record}
+pub use Rattle.rules.proofs.EachKind.{lengthOf, readingLength, length-of-record}
 
 -- a record of the file that stands at an offset
 pub record Standing (file : List ℕ) (offset : ℕ) (r : Record) : Type 0 where
@@ -48,6 +49,11 @@ row-more {A} file offset mk l x row new k b d =
     (λ (c : k < length l). rw (List·getD-append l (x ∷ []) d k c) (row k c d))
     (eq-or-lt-of-le (omega (arith, length-append l (x ∷ []))))
 
+-- the same at offsets that are the same
+row-same : {A : Type 0} (file : List ℕ) {offset offset′ : ℕ → ℕ} (mk : ℕ → A → Record) (l : List A) → ((k : ℕ) → k < length l → offset k ≡ offset′ k)
+    → Row file offset mk l → Row file offset′ mk l
+row-same file mk l same row k b d = subst (λ (o : ℕ). Standing file o (mk k (getD l k d))) (same k b) (row k b d)
+
 -- a record whose hour field is the number that is due, and that stands where that number stands
 at-its-place : {A : Type 0} {file : List ℕ} {offset place hour : ℕ} → offset ≡ place → (mk : ℕ → A → Record) {k : ℕ} → eqb hour k ≡ true → {x : A}
     → Standing file offset (mk hour x)
@@ -68,19 +74,42 @@ refixedOffset parties hours k = 10 + 22 * parties + 36 * hours + 36 * k
 abbrev pub priceOffset : ℕ → ℕ → ℕ → ℕ → ℕ
 priceOffset parties hours refixed k = 10 + 22 * parties + 36 * hours + 36 * refixed + 7 * k
 
-abbrev pub readingOffset : ℕ → ℕ → ℕ → ℕ → ℕ
-readingOffset parties hours refixed k = 10 + 22 * parties + 36 * hours + 36 * refixed + 7 * hours + 10 * k
+-- a reading's bytes with its kind, of one over months more than of one in this month; and those of the readings before the k-th
+unfoldable pub readingSize : Reading → ℕ
+readingSize r = 1 + readingLength (r .over)
+
+unfoldable pub sizesBefore : List Reading → ℕ → ℕ
+sizesBefore l k = sum k (λ j. readingSize (getD l j (record { party = 0; a = 0; b = 0; e = 0; over = thisMonth })))
+
+abbrev pub readingOffset : ℕ → ℕ → ℕ → List Reading → ℕ → ℕ
+readingOffset parties hours refixed readings k = 10 + 22 * parties + 36 * hours + 36 * refixed + 7 * hours + sizesBefore readings k
+
+no-sizes : (l : List Reading) → length l ≡ 0 → sizesBefore l (length l) ≡ 0
+unfolding sizesBefore sum
+no-sizes l e = rw e
+
+module _ (l : List Reading) (x : Reading) where
+  same-sizes : (k : ℕ) → k ≤ length l → sizesBefore l k ≡ sizesBefore (l ++ (x ∷ [])) k
+  unfolding sizesBefore
+  same-sizes k b = sum-cong k (λ j c. ap readingSize (sym (List·getD-append l (x ∷ []) _ j (omega arith))))
+
+  pub one-size-more : sizesBefore (l ++ (x ∷ [])) (length (l ++ (x ∷ []))) ≡ sizesBefore l (length l) + readingSize x
+  unfolding sizesBefore sum
+  one-size-more =
+      let longer : length (l ++ (x ∷ [])) ≡ suc (length l) = length-append l (x ∷ []) ∙ omega arith in
+      let until : sizesBefore l (length l) ≡ sizesBefore (l ++ (x ∷ [])) (length l) = same-sizes (length l) (omega arith) in
+      rw (longer, getD-at l x [] _ (length l) refl) (omega arith)
 
 -- What has been read so far of a file, up to an offset.
 pub record Placed (file : List ℕ) (m : MonthFile) (offset : ℕ) : Type 0 where
   pub at-start : H m ≡ 0 → offset ≡ 0
-  pub so-far : 0 < H m → offset ≡ 10 + 22 * length (m .parties) + 36 * length (m .fixed) + 36 * length (m .refixed) + 7 * length (m .prices) + 10 * length (m .readings)
+  pub so-far : 0 < H m → offset ≡ 10 + 22 * length (m .parties) + 36 * length (m .fixed) + 36 * length (m .refixed) + 7 * length (m .prices) + sizesBefore (m .readings) (length (m .readings))
   pub head : 0 < H m → Standing file 0 (heading (m .heading))
   pub parties : Row file partyOffset asParty (m .parties)
   pub fixed : Row file (fixedOffset (P m)) fixedHour (m .fixed)
   pub refixed : Row file (refixedOffset (P m) (H m)) refixedHour (m .refixed)
   pub prices : Row file (priceOffset (P m) (H m) (length (m .refixed))) price (m .prices)
-  pub readings : Row file (readingOffset (P m) (H m) (length (m .refixed))) asReading (m .readings)
+  pub readings : Row file (readingOffset (P m) (H m) (length (m .refixed)) (m .readings)) asReading (m .readings)
 
 nothing-is-placed : (file : List ℕ) → Placed file nothingYet 0
 unfolding nothingYet H P
@@ -93,7 +122,7 @@ nothing-is-placed file =
       fixed = row-none file (fixedOffset 0) fixedHour [] refl;
       refixed = row-none file (refixedOffset 0 0) refixedHour [] refl;
       prices = row-none file (priceOffset 0 0 0) price [] refl;
-      readings = row-none file (readingOffset 0 0 0) asReading [] refl;
+      readings = row-none file (readingOffset 0 0 0 []) asReading [] refl;
     }
 
 one-longer : {A : Type 0} (l : List A) (x : A) → length (l ++ (x ∷ [])) ≡ length l + 1
@@ -137,20 +166,20 @@ module _ (file : List ℕ) (m : MonthFile) (s : Sound m) (offset : ℕ) (p : Pla
       let start : offset ≡ 0 = p .at-start (eqb-true (m .heading .hours) 0 d) in
       record {
         at-start = λ e. absurd (omega arith);
-        so-far = λ b. omega (arith, none .0, none .1, none .2, none .3, none .4);
+        so-far = λ b. omega (arith, none .0, none .1, none .2, none .3, no-sizes (m .readings) (none .4));
         head = λ b. subst (λ (o : ℕ). Standing file o (heading h)) start here;
         parties = row-none file partyOffset asParty (m .parties) (none .0);
         fixed = row-none file (fixedOffset (h .parties)) fixedHour (m .fixed) (none .1);
         refixed = row-none file (refixedOffset (h .parties) (h .hours)) refixedHour (m .refixed) (none .2);
         prices = row-none file (priceOffset (h .parties) (h .hours) (length (m .refixed))) price (m .prices) (none .3);
-        readings = row-none file (readingOffset (h .parties) (h .hours) (length (m .refixed))) asReading (m .readings) (none .4);
+        readings = row-none file (readingOffset (h .parties) (h .hours) (length (m .refixed)) (m .readings)) asReading (m .readings) (none .4);
       }
 
   place-party : (x : Party) → due m (party x) ≡ true → Standing file offset (party x) → Placed file (with m (party x)) (offset + 22)
   unfolding due with H P
   place-party x d here =
       let none = parties-due (s .counts) (ltb-true (length (m .parties)) (P m) d) in
-      let there : offset ≡ partyOffset (length (m .parties)) = omega (arith, p .so-far (none .0), none .1, none .2, none .3, none .4) in
+      let there : offset ≡ partyOffset (length (m .parties)) = omega (arith, p .so-far (none .0), none .1, none .2, none .3, no-sizes (m .readings) (none .4)) in
       record {
         at-start = λ e. absurd (omega (arith, none .0));
         so-far = λ b. omega (arith, one-longer (m .parties) x, p .so-far b);
@@ -170,7 +199,7 @@ module _ (file : List ℕ) (m : MonthFile) (s : Sound m) (offset : ℕ) (p : Pla
       let all : length (m .parties) ≡ P m = eqb-true (length (m .parties)) (P m) (inner .0) in
       let more : length (m .fixed) < H m = ltb-true (length (m .fixed)) (H m) (inner .1) in
       let none = fixed-due (s .counts) more in
-      let there : offset ≡ fixedOffset (P m) (length (m .fixed)) = omega (arith, p .so-far (omega arith), none .0, none .1, none .2) in
+      let there : offset ≡ fixedOffset (P m) (length (m .fixed)) = omega (arith, p .so-far (omega arith), none .0, none .1, no-sizes (m .readings) (none .2)) in
       record {
         at-start = λ e. absurd (omega arith);
         so-far = λ b. omega (arith, one-longer (m .fixed) x, p .so-far b);
@@ -193,7 +222,7 @@ module _ (file : List ℕ) (m : MonthFile) (s : Sound m) (offset : ℕ) (p : Pla
       let no-prices : length (m .prices) ≡ 0 = eqb-true (length (m .prices)) 0 (middle .1) in
       let no-more : length (m .readings) ≡ 0 = no-readings (s .counts) (omega arith) in
       let everyone : length (m .parties) ≡ P m = all-parties (s .counts) all (omega arith) in
-      let there : offset ≡ refixedOffset (P m) (H m) (length (m .refixed)) = omega (arith, p .so-far (omega arith)) in
+      let there : offset ≡ refixedOffset (P m) (H m) (length (m .refixed)) = omega (arith, p .so-far (omega arith), no-sizes (m .readings) no-more) in
       record {
         at-start = λ e. absurd (omega arith);
         so-far = λ b. omega (arith, one-longer (m .refixed) x, p .so-far b);
@@ -202,7 +231,7 @@ module _ (file : List ℕ) (m : MonthFile) (s : Sound m) (offset : ℕ) (p : Pla
         fixed = p .fixed;
         refixed = row-more file (refixedOffset (P m) (H m)) refixedHour (m .refixed) x (p .refixed) (at-its-place there refixedHour (outer .1) here);
         prices = row-none file (priceOffset (P m) (H m) (length (m .refixed ++ (x ∷ [])))) price (m .prices) no-prices;
-        readings = row-none file (readingOffset (P m) (H m) (length (m .refixed ++ (x ∷ [])))) asReading (m .readings) no-more;
+        readings = row-none file (readingOffset (P m) (H m) (length (m .refixed ++ (x ∷ []))) (m .readings)) asReading (m .readings) no-more;
       }
 
   place-price : (hour : ℕ) (x : ℤ) → due m (price hour x) ≡ true → Standing file offset (price hour x) → Placed file (with m (price hour x)) (offset + 7)
@@ -215,7 +244,7 @@ module _ (file : List ℕ) (m : MonthFile) (s : Sound m) (offset : ℕ) (p : Pla
       let more : length (m .prices) < H m = ltb-true (length (m .prices)) (H m) (middle .1) in
       let no-more : length (m .readings) ≡ 0 = no-readings (s .counts) more in
       let everyone : length (m .parties) ≡ P m = all-parties (s .counts) all (omega arith) in
-      let there : offset ≡ priceOffset (P m) (H m) (length (m .refixed)) (length (m .prices)) = omega (arith, p .so-far (omega arith)) in
+      let there : offset ≡ priceOffset (P m) (H m) (length (m .refixed)) (length (m .prices)) = omega (arith, p .so-far (omega arith), no-sizes (m .readings) no-more) in
       record {
         at-start = λ e. absurd (omega arith);
         so-far = λ b. omega (arith, one-longer (m .prices) x, p .so-far b);
@@ -227,24 +256,30 @@ module _ (file : List ℕ) (m : MonthFile) (s : Sound m) (offset : ℕ) (p : Pla
         readings = p .readings;
       }
 
-  place-reading : (x : Reading) → due m (reading x) ≡ true → Standing file offset (reading x) → Placed file (with m (reading x)) (offset + 10)
-  unfolding due with H P
+  place-reading : (x : Reading) → due m (reading x) ≡ true → Standing file offset (reading x) → Placed file (with m (reading x)) (offset + (1 + lengthOf (reading x)))
+  unfolding due with H P readingSize
   place-reading x d here =
       let tests = both-pass (leb 1 (H m)) (eqb (length (m .prices)) (H m)) d in
       let some : 1 ≤ H m = leb-true 1 (H m) (tests .0) in
       let priced : length (m .prices) ≡ H m = eqb-true (length (m .prices)) (H m) (tests .1) in
       let all : length (m .fixed) ≡ H m = all-fixed (s .counts) priced some in
       let everyone : length (m .parties) ≡ P m = all-parties (s .counts) all some in
-      let there : offset ≡ readingOffset (P m) (H m) (length (m .refixed)) (length (m .readings)) = omega (arith, p .so-far some) in
+      let there : offset ≡ readingOffset (P m) (H m) (length (m .refixed)) (m .readings) (length (m .readings)) = omega (arith, p .so-far some) in
+      let moved : (k : ℕ) → k ≤ length (m .readings)
+      → readingOffset (P m) (H m) (length (m .refixed)) (m .readings) k ≡ readingOffset (P m) (H m) (length (m .refixed)) (m .readings ++ (x ∷ [])) k =
+      λ k b. omega (arith, same-sizes (m .readings) x k b) in
       record {
         at-start = λ e. absurd (omega arith);
-        so-far = λ b. omega (arith, one-longer (m .readings) x, p .so-far b);
+        so-far = λ b. omega (arith, one-size-more (m .readings) x, p .so-far b);
         head = p .head;
         parties = p .parties;
         fixed = p .fixed;
         refixed = p .refixed;
         prices = p .prices;
-        readings = row-more file (readingOffset (P m) (H m) (length (m .refixed))) asReading (m .readings) x (p .readings) (subst (λ (o : ℕ). Standing file o (reading x)) there here);
+        readings =
+            row-more file (readingOffset (P m) (H m) (length (m .refixed)) (m .readings ++ (x ∷ []))) asReading (m .readings) x
+            (row-same file asReading (m .readings) (λ k b. moved k (omega arith)) (p .readings))
+            (subst (λ (o : ℕ). Standing file o (reading x)) (there ∙ moved (length (m .readings)) (omega arith)) here);
       }
 
 -- a record of any kind but the end

@@ -26,7 +26,7 @@ use Rattle.rules.specs.WellFormed.{Bytes, bytesOfAll}
 use Rattle.rules.specs.Words.{at, within, withinℤ, joined}
 use Rattle.rules.proofs.EachKind.{kind-known}
 use Rattle.rules.proofs.Refusals.{accepted-exactly, unless-exactly}
-use Rattle.rules.proofs.RoundTrip.{CountHeld, record-back, kind-back, record-length, written-of-read, bytes-drop}
+use Rattle.rules.proofs.RoundTrip.{Held, read-is-held, record-back, kind-back, record-length, written-of-read, bytes-drop}
 use Rattle.rules.proofs.Whole.{Sound, nothing-is-sound, heading-facts, true-not-false, both-pass, within-is, step, bound-is-enough}
 
 -- IN A FILE AND ALONE: a record without fault in a file is one without fault alone, since no file has more hours or parties than a record alone may have
@@ -97,7 +97,7 @@ unfolding onward
 went-through v rest e = rw e
 
 -- a record without fault, and all that follows it
-one-record : (setting : Setting) (m : MonthFile) → Sound m → (n : ℕ) (r : Record) → due m r ≡ true → NoneRefuses (checks (inFile m n) r) → CountHeld r → (rest : List ℕ)
+one-record : (setting : Setting) (m : MonthFile) → Sound m → (n : ℕ) (r : Record) → due m r ≡ true → NoneRefuses (checks (inFile m n) r) → Held r → (rest : List ℕ)
     → readFrom setting (recordBytes r ++ rest) n m ≡ onFrom setting r rest n m
 unfolding recordBytes recordChecks
 one-record setting m s n r d c held rest =
@@ -119,11 +119,6 @@ one-record setting m s n r d c held rest =
 
 -- RECORDS THAT PASS
 
--- only an end has a count to be held
-no-count : (r : Record) → isEnd r ≡ false → CountHeld r
-unfolding isEnd
-no-count r e count is = absurd (let z : _≡_ {A = Bool} true false = sym (ap isEnd is) ∙ e in true-not-false z)
-
 sound-after : (records : List Record) (m : MonthFile) → Sound m → (n : ℕ) → AllPass m n records → Sound (withAll m records)
 unfolding withAll
 sound-after [] m s n all = s
@@ -138,7 +133,7 @@ reads-through setting (r ∷ records) rest m s n all =
     let more : List ℕ = bytesOfAll records ++ rest in
     let p : Passes m n r = all .0 in
     ap (λ (bytes : List ℕ). readFrom setting bytes n m) (append-assoc (recordBytes r) (bytesOfAll records) rest)
-    ∙ one-record setting m s n r (p .is-due) (p .none-refuses) (no-count r (p .not-the-end)) more
+    ∙ one-record setting m s n r (p .is-due) (p .none-refuses) (p .held) more
     ∙ ap (λ (ends : Bool). cond ends (closed m (suc n) more) (readFrom setting more (suc n) (with m r))) (p .not-the-end)
     ∙ reads-through setting records rest (with m r) (step m s n r (p .is-due) (p .none-refuses)) (suc n) (all .1)
     ∙ ap (λ (k : ℕ). readFrom setting rest k (withAll (with m r) records)) (omega arith)
@@ -168,16 +163,13 @@ refuses-here setting m n [] some r place e = absurd (omega arith)
 refuses-here setting m n (kind ∷ body) some r place e =
     from-a-record setting kind body n m ∙ ap (λ (v : Verdict). onward v (onFrom setting (recordAt (kind ∷ body)) (drop (bodyLength kind) body) n m)) e
 
-end-held : (n : ℕ) → n < 256 ^ 4 → CountHeld (end n)
-end-held n b count is = let same : n ≡ count = cc in omega arith
-
 stops-so : (setting : Setting) (m : MonthFile) → Sound m → (n : ℕ) → n < 256 ^ 4 → (rest : List ℕ) (stop : Stop setting m n rest) → readFrom setting rest n m ≡ answerAt setting m n rest stop
 unfolding readOn isEnd checks
 stops-so setting m s n b rest (nothing-left e) = ap (λ (bytes : List ℕ). readFrom setting bytes n m) e
 stops-so setting m s n b rest (check-refuses some r place e) = refuses-here setting m n rest some r place e
 stops-so setting m s n b rest (right-end d after e) =
     ap (λ (bytes : List ℕ). readFrom setting bytes n m) e
-    ∙ one-record setting m s n (end n) d (unless-exactly (eqb n n) _ _ .1 (eq-eqb n n refl), tt) (end-held n b) after
+    ∙ one-record setting m s n (end n) d (unless-exactly (eqb n n) _ _ .1 (eq-eqb n n refl), tt) b after
 
 -- THE COURSE OF A READING: any bytes are those of records that pass, and of a rest at which it stops
 pub record Course (setting : Setting) (m : MonthFile) (n : ℕ) (bytes : List ℕ) : Type 0 where
@@ -211,6 +203,7 @@ record Stands (m : MonthFile) (n : ℕ) (bytes : List ℕ) (r : Record) (left : 
   bytes-are : bytes ≡ recordBytes r ++ left
   is-due : due m r ≡ true
   none-refuses : NoneRefuses (checks (inFile m n) r)
+  held : Held r
 
 given-alone : (bytes : List ℕ) → 1 ≤ length bytes → known (kindAt bytes) ≡ true → leb (1 + bodyLength (kindAt bytes)) (length bytes) ≡ true
     → NoneRefuses (checks alone (recordAt bytes)) → readAlone bytes ≡ given (recordAt bytes)
@@ -233,6 +226,7 @@ stands setting m s n kind body small e =
           ∙ ap (λ (l : List ℕ). l ++ drop (bodyLength kind) body) (ap (λ (k : ℕ). take k bytes) (sym (one-add (bodyLength kind))) ∙ sym same);
       is-due = unless-exactly (due m r) _ _ .0 (passed .1 .1 .0);
       none-refuses = passed .1 .1 .1;
+      held = read-is-held kind body (bytes-drop 1 bytes small) known-kind (omega (arith, leb-true (1 + bodyLength kind) (length bytes) fits));
     }
 
 -- an end that stands rightly has the number of records before it
@@ -261,7 +255,7 @@ module _ (setting : Setting) (m : MonthFile) (s : Sound m) (n kind : ℕ) (body 
     by-its-kind true e stands-here = stopped (the-end-here setting m n (kind ∷ body) here left e stands-here)
     by-its-kind false e stands-here =
         one-passes setting m n (kind ∷ body) here left (stands-here .bytes-are)
-        (record { not-the-end = e; is-due = stands-here .is-due; none-refuses = stands-here .none-refuses })
+        (record { not-the-end = e; is-due = stands-here .is-due; none-refuses = stands-here .none-refuses; held = stands-here .held })
         (next (step m s n here (stands-here .is-due) (stands-here .none-refuses)))
 
     by-its-verdict : (v : Verdict) → first (recordChecks setting m n (kind ∷ body)) ≡ v → Course setting m n (kind ∷ body)

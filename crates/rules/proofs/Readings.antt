@@ -1,5 +1,5 @@
--- A party's month of periodised figures is the sum of the E of its readings: a reading lies within the month, so none of its figures is left out, and they
--- add up to its E.
+-- A party's month of periodised figures is the sum of what its readings say of the month: a reading's hours lie within the month, so none of its figures is
+-- left out, and they add up to its E or, of one over several months, to this month's part of E.
 use mathlib.Core.Bool.{Bool, true, false, cond, _&&_}
 use mathlib.Core.Logic.{_⊎_, inl, inr, ⊎-elim}
 use mathlib.Core.Path.{_≡_, refl, sym, _∙_, ap}
@@ -8,14 +8,15 @@ use native.Mathlib.Omega.{arith}
 use borrow.Author.Tests.{le-leb, lt-leb, lt-ltb, le-ltb, leb-true, eqb-true}
 use lib.Dec.{eqb, leb, ltb}
 use lib.ListN.{length}
-use Rattle.rules.specs.Month.{readingAt, weightOf, S, readingFigure, figureFor, periodised, monthPeriodised, energyFor, readEnergy, readingVerdict, monthChecks, monthVerdict}
+use Rattle.rules.specs.Month.{readingAt, weightOf, S, weightBefore, wholeWeight, wholeOf, readingFigure, figureFor, periodised, monthPeriodised, energyOf, energyFor}
+use Rattle.rules.specs.Month.{readEnergy, followsWhole, readingChecks, readingVerdict, monthChecks, monthVerdict}
 use Rattle.rules.specs.MonthFile.{MonthFile, H, P}
-use Rattle.rules.specs.Periodised.{periodisedFigure}
-use Rattle.rules.specs.Record.{Reading}
+use Rattle.rules.specs.Periodised.{periodisedFigure, partOfE}
+use Rattle.rules.specs.Record.{Over, thisMonth, manyMonths, Reading}
 use Rattle.rules.specs.Refusals.{accepted}
 use Rattle.rules.specs.Setting.{Setting}
 use Rattle.rules.specs.Words.{sum}
-use Rattle.rules.proofs.Periodised.{figures-add-up-to-E, nothing-over-nothing}
+use Rattle.rules.proofs.Periodised.{figures-add-up, part-is-all}
 use Rattle.rules.proofs.Refusals.{accepted-exactly, in-turn-exactly, unless-exactly}
 use Rattle.rules.proofs.Sums.{sum-cong, sum-split, sum-swap, sum-zero}
 use Rattle.rules.proofs.Whole.{Whole, ReadingRight, every-at, one-passes}
@@ -46,42 +47,42 @@ module _ (a b h : ℕ) (f : ℕ → ℕ) (rises : a ≤ b) (within : b ≤ h) wh
       let after = sum-zero (h - b) {f = λ k. placed (a + (b - a + k))} (λ k l. behind k) in
       omega (arith, ap (λ (n : ℕ). sum n placed) whole, first, second, none, own, after)
 
--- A READING WITHIN THE MONTH ADDS UP TO ITS E, if it has E = 0 or S > 0 (13)
+-- A READING ADDS UP to its E where it lies in this month, if it has E = 0 or S > 0 (13), and else to this month's part of E
+part-is-energy : (e own : ℕ) (over : Over) → (e ≡ 0) ⊎ (0 < wholeWeight over own) → partOfE e (weightBefore over) own (wholeWeight over own) ≡ energyOf over e own
+unfolding weightBefore wholeWeight energyOf
+part-is-energy e own thisMonth c = part-is-all e own c
+part-is-energy e own (manyMonths before whole) c = refl
+
 module _ (m : MonthFile) (r : Reading) where
   abbrev own-figures : ℕ → ℕ
-  own-figures = periodisedFigure (r .e) (r .b - r .a) (weightOf m r)
+  own-figures = periodisedFigure (r .e) (weightBefore (r .over)) (wholeOf m r) (weightOf m r)
 
-  nothing : r .e ≡ 0 → sum (r .b - r .a) own-figures ≡ r .e
-  nothing z = sum-zero (r .b - r .a) (λ k l. nothing-over-nothing (r .e) (r .b - r .a) (weightOf m r) k (inl z)) ∙ sym z
-
-  something : 0 < S m r → sum (r .b - r .a) own-figures ≡ r .e
-  unfolding S
-  something p = figures-add-up-to-E (r .e) (r .b - r .a) (weightOf m r) p
-
-  pub reading-adds-up : r .a < r .b → r .b ≤ H m → (r .e ≡ 0) ⊎ (0 < S m r) → sum (H m) (readingFigure m r) ≡ r .e
-  unfolding readingFigure
-  reading-adds-up rises within c = sum-placed (r .a) (r .b) (H m) own-figures (omega arith) within ∙ ⊎-elim nothing something c
+  pub reading-adds-up : r .a < r .b → r .b ≤ H m → (r .e ≡ 0) ⊎ (0 < wholeOf m r) → sum (H m) (readingFigure m r) ≡ energyOf (r .over) (r .e) (S m r)
+  unfolding readingFigure S wholeOf
+  reading-adds-up rises within c =
+      sum-placed (r .a) (r .b) (H m) own-figures (omega arith) within ∙ figures-add-up (r .e) (weightBefore (r .over)) (wholeOf m r) (weightOf m r) (r .b - r .a)
+      ∙ part-is-energy (r .e) (S m r) (r .over) c
 
 module _ (m : MonthFile) (whole : Whole m) (followed : (j : ℕ) → j < length (m .readings) → readingVerdict m j ≡ accepted) where
   its-span : (j : ℕ) → j < length (m .readings) → ReadingRight (H m) (P m) (readingAt m j)
   unfolding readingAt
   its-span j b = every-at (ReadingRight (H m) (P m)) (m .readings) (whole .readings) j _ b
 
-  no-13 : (j : ℕ) → j < length (m .readings) → (readingAt m j .e ≡ 0) ⊎ (0 < S m (readingAt m j))
-  unfolding readingVerdict
+  no-13 : (j : ℕ) → j < length (m .readings) → (readingAt m j .e ≡ 0) ⊎ (0 < wholeOf m (readingAt m j))
+  unfolding readingVerdict readingChecks followsWhole
   no-13 j b =
-      ⊎-elim (λ (z : eqb (readingAt m j .e) 0 ≡ true). inl (eqb-true _ _ z)) (λ (p : leb 1 (S m (readingAt m j)) ≡ true). inr (leb-true _ _ p))
-      (one-passes _ _ (unless-exactly _ _ _ .0 (followed j b)))
+      ⊎-elim (λ (z : eqb (readingAt m j .e) 0 ≡ true). inl (eqb-true _ _ z)) (λ (p : leb 1 (wholeOf m (readingAt m j)) ≡ true). inr (leb-true _ _ p))
+      (one-passes _ _ (unless-exactly _ _ _ .0 (accepted-exactly (readingChecks m (readingAt m j) j) .0 (followed j b) .1 .0)))
 
   of-one : (i j : ℕ) → j < length (m .readings) → sum (H m) (λ t. figureFor m t i j) ≡ energyFor m i j
   unfolding figureFor energyFor
   of-one i j b = go (eqb (readingAt m j .party) i)
     where
-      go : (t : Bool) → sum (H m) (λ k. cond t (readingFigure m (readingAt m j) k) 0) ≡ cond t (readingAt m j .e) 0
+      go : (t : Bool) → sum (H m) (λ k. cond t (readingFigure m (readingAt m j) k) 0) ≡ cond t (energyOf (readingAt m j .over) (readingAt m j .e) (S m (readingAt m j))) 0
       go true = reading-adds-up m (readingAt m j) (its-span j b .1) (its-span j b .2) (no-13 j b)
       go false = sum-zero (H m) (λ k l. refl)
 
-  -- A PARTY'S MONTH OF PERIODISED FIGURES IS THE SUM OF THE E OF ITS READINGS
+  -- A PARTY'S MONTH OF PERIODISED FIGURES IS THE SUM OF THE E OF ITS 04 READINGS AND OF THIS MONTH'S PARTS OF ITS 08 READINGS
   pub periodised-of-readings : (i : ℕ) → monthPeriodised m i ≡ readEnergy m i
   unfolding monthPeriodised periodised readEnergy
   periodised-of-readings i =

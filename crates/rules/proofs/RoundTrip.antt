@@ -11,13 +11,14 @@ use borrow.Author.Tests.{ltb-true, leb-true, eqb-true, lt-ltb, le-ltb, le-leb}
 use lib.Dec.{eqb, leb, ltb}
 use lib.IntN.{ℤ, pos, negsuc}
 use lib.ListN.{length, getD, take, drop, length-append, length-drop}
-use lib.Seq.{take-at, drop-at, drop-cons, take-suc, take-add, take-all, getD-drop, length-take-le}
+use lib.Seq.{take-at, drop-at, drop-cons, drop-drop, take-suc, take-add, take-all, getD-drop, length-take-le}
 use lib.Signed.{mag, leZ}
 use Rattle.rules.specs.Accepted.{NoneRefuses}
 use Rattle.rules.specs.Flows.{Flows, flowsInRange, silentIsZero}
 use Rattle.rules.specs.Gln.{validGln, allDigits, weightedSum}
 use Rattle.rules.specs.Limits.{estimated, mostHours, mostParties, greatestShare, greatestFlow, greatestEnergy, greatestPrice, glnDigits}
-use Rattle.rules.specs.Record.{Heading, Reading, Record, heading, party, fixedHour, reading, price, refixedHour, end, hourWidths, layouts, widthsIn, fieldWidths}
+use Rattle.rules.specs.Record.{Heading, Over, thisMonth, manyMonths, Reading, Record, heading, party, fixedHour, reading, price, refixedHour, end, hourWidths, layouts}
+use Rattle.rules.specs.Record.{widthsIn, fieldWidths, readingKindOf, weightFields}
 use Rattle.rules.specs.Record.{totalOf, bodyLength, known, numberOnto, bytesOf, signed, unsigned, cutInto, field, numberAt, signedAt, headingFrom, flowsFrom}
 use Rattle.rules.specs.Record.{readingFrom, recordFrom, kindAt, recordAt, Field, number, signedNumber, digits, fieldBytes, inWidths, kindOf, hourFields}
 use Rattle.rules.specs.Record.{fieldsOf, recordBytes, alone, headingInRange, hourInRange, checks, readAlone}
@@ -27,6 +28,7 @@ use Rattle.rules.proofs.EachKind.{Entries, each-kind, kind-known, kind-
 use Rattle.rules.proofs.Refusals.{accepted-exactly, unless-exactly}
 use Rattle.rules.proofs.Whole.{HeadingFacts, heading-facts, both-pass}
 unfoldable pub use Rattle.rules.specs.WellFormed.{Bytes}
+pub use Rattle.rules.specs.WellFormed.{Held, WeightsHeld}
 
 -- NUMBERS AND BYTES
 
@@ -185,13 +187,19 @@ pub price-range : (hour : ℕ) (p : ℤ) → NoneRefuses (checks alone (price ho
 unfolding checks
 price-range hour p c = unless-exactly (ltb hour mostHours && withinℤ greatestPrice p) _ _ .0 (c .0)
 
+reading-widths : (who a b e : ℕ) (over : Over)
+    → widthsOf (inWidths (fieldWidths (readingKindOf over)) (number who ∷ number a ∷ number b ∷ number e ∷ weightFields over)) ≡ fieldWidths (readingKindOf over)
+unfolding fieldWidths layouts widthsIn weightFields inWidths fieldBytes
+reading-widths who a b e thisMonth = simp bytes-length
+reading-widths who a b e (manyMonths before whole) = simp bytes-length
+
 -- every field of a record without fault has its width
 widths-are : (r : Record) → NoneRefuses (checks alone r) → widthsOf (inWidths (fieldWidths (kindOf r)) (fieldsOf r)) ≡ fieldWidths (kindOf r)
 unfolding fieldWidths layouts widthsIn fieldsOf hourFields inWidths fieldBytes
 widths-are (heading h) c = simp bytes-length
 widths-are (party p) c = rw (valid-length (p .gln) (valid-gln (p .gln) (p .share) c), bytes-length 8 (p .share))
 widths-are (fixedHour hour f) c = simp bytes-length
-widths-are (reading r) c = simp bytes-length
+widths-are (reading r) c = reading-widths (r .party) (r .a) (r .b) (r .e) (r .over)
 widths-are (price hour p) c = simp bytes-length
 widths-are (refixedHour hour f) c = simp bytes-length
 widths-are (end count) c = simp bytes-length
@@ -273,20 +281,34 @@ heading-back h f =
       number-of-bytes 1 (h .carrier) (omega (arith, f .parties .1, f .carrier)),
     )
 
-reading-back : (r : Reading) → NoneRefuses (checks alone (reading r)) → recordFrom (kindOf (reading r)) (written-fields (reading r)) ≡ reading r
-unfolding checks fieldWidths layouts widthsIn fieldsOf inWidths fieldBytes recordFrom readingFrom numberAt field
-reading-back r c =
+-- the numbers of a reading, and its weights as its kind has them
+weights-back : (who a b e : ℕ) (over : Over) → who < 256 ^ 1 → a < 256 ^ 2 → b < 256 ^ 2 → e < 256 ^ 4 → WeightsHeld over
+    → recordFrom (readingKindOf over) (inWidths (fieldWidths (readingKindOf over)) (number who ∷ number a ∷ number b ∷ number e ∷ weightFields over))
+    ≡ reading (record { party = who; a = a; b = b; e = e; over = over })
+unfolding fieldWidths layouts widthsIn weightFields inWidths fieldBytes recordFrom readingFrom numberAt field
+weights-back who a b e thisMonth p-small a-small b-small e-small held =
+    rw (number-of-bytes 1 who p-small, number-of-bytes 2 a a-small, number-of-bytes 2 b b-small, number-of-bytes 4 e e-small)
+weights-back who a b e (manyMonths before whole) p-small a-small b-small e-small held =
+    rw (
+      number-of-bytes 1 who p-small,
+      number-of-bytes 2 a a-small,
+      number-of-bytes 2 b b-small,
+      number-of-bytes 4 e e-small,
+      number-of-bytes 8 before (held .0),
+      number-of-bytes 8 whole (held .1),
+    )
+
+reading-back : (r : Reading) → WeightsHeld (r .over) → NoneRefuses (checks alone (reading r)) → recordFrom (kindOf (reading r)) (written-fields (reading r)) ≡ reading r
+unfolding checks fieldsOf
+reading-back r held c =
     let whose = unless-exactly (ltb (r .party) mostParties) _ _ .0 (c .0) in
     let span = both-true (ltb (r .a) (r .b)) (leb (r .b) mostHours) (unless-exactly _ _ _ .0 (c .1 .0)) in
     let b : r .b ≤ mostHours = leb-true (r .b) mostHours (span .1) in
     let a : r .a < r .b = ltb-true (r .a) (r .b) (span .0) in
     let energy = unless-exactly (leb (r .e) greatestEnergy) _ _ .0 (c .1 .1 .0) in
-    rw (
-      number-of-bytes 1 (r .party) (omega (arith, ltb-true (r .party) mostParties whose)),
-      number-of-bytes 2 (r .a) (omega arith),
-      number-of-bytes 2 (r .b) (omega arith),
-      number-of-bytes 4 (r .e) (omega (arith, leb-true (r .e) greatestEnergy energy)),
-    )
+    weights-back (r .party) (r .a) (r .b) (r .e) (r .over) (omega (arith, ltb-true (r .party) mostParties whose)) (omega arith) (omega arith)
+    (omega (arith, leb-true (r .e) greatestEnergy energy))
+    held
 
 price-back : (hour : ℕ) (p : ℤ) → NoneRefuses (checks alone (price hour p)) → recordFrom (kindOf (price hour p)) (written-fields (price hour p)) ≡ price hour p
 unfolding fieldWidths layouts widthsIn fieldsOf inWidths fieldBytes recordFrom numberAt signedAt field
@@ -295,12 +317,8 @@ price-back hour p c =
     let small : mag p ≤ greatestPrice = price-size p (both .1) in
     rw (number-of-bytes 2 hour (omega (arith, ltb-true hour mostHours (both .0))), signed-back 4 p (omega arith))
 
--- "the end count may be any 4 bytes"
-abbrev pub CountHeld : Record → Type 0
-CountHeld r = (count : ℕ) → r ≡ end count → count < 256 ^ 4
-
 -- the fields of a record without fault are read as the record
-fields-back : (r : Record) → CountHeld r → NoneRefuses (checks alone r) → recordFrom (kindOf r) (written-fields r) ≡ r
+fields-back : (r : Record) → Held r → NoneRefuses (checks alone r) → recordFrom (kindOf r) (written-fields r) ≡ r
 unfolding checks fieldWidths layouts widthsIn fieldsOf hourFields inWidths fieldBytes recordFrom numberAt field
 fields-back (heading h) n c = heading-back h (heading-facts h (unless-exactly (headingInRange h) _ _ .0 (c .0)))
 fields-back (party p) n c =
@@ -309,14 +327,14 @@ fields-back (party p) n c =
 fields-back (fixedHour hour f) n c =
     let h = hour-held hour f (unless-exactly (hourInRange mostHours hour f) _ _ .0 (c .0)) in
     ap₂ fixedHour (hour-back hour f h) (flows-back hour f h)
-fields-back (reading r) n c = reading-back r c
+fields-back (reading r) n c = reading-back r n c
 fields-back (price hour p) n c = price-back hour p c
 fields-back (refixedHour hour f) n c =
     let h = hour-held hour f (unless-exactly (hourInRange mostHours hour f) _ _ .0 (c .0)) in
     ap₂ refixedHour (hour-back hour f h) (flows-back hour f h)
-fields-back (end count) n c = ap end (number-of-bytes 4 count (n count refl))
+fields-back (end count) n c = ap end (number-of-bytes 4 count n)
 
-pub record-back : (r : Record) (more : List ℕ) → CountHeld r → NoneRefuses (checks alone r) → recordAt (recordBytes r ++ more) ≡ r
+pub record-back : (r : Record) (more : List ℕ) → Held r → NoneRefuses (checks alone r) → recordAt (recordBytes r ++ more) ≡ r
 unfolding recordBytes recordAt kindAt at
 record-back r more n c =
     ap (λ (ws : List ℕ). recordFrom (kindOf r) (cutInto ws (joined (written-fields r) ++ more))) (sym (widths-are r c))
@@ -328,7 +346,7 @@ unfolding recordBytes kindAt at
 kind-back r more = refl
 
 -- READ OF WRITTEN IS THE SAME RECORD, for every record without fault, whatever follows it
-pub read-of-written : (r : Record) (more : List ℕ) → CountHeld r → first (checks alone r) ≡ accepted → readAlone (recordBytes r ++ more) ≡ given r
+pub read-of-written : (r : Record) (more : List ℕ) → Held r → first (checks alone r) ≡ accepted → readAlone (recordBytes r ++ more) ≡ given r
 unfolding readAlone first andThen unless answer
 read-of-written r more n e =
     let s : List ℕ = recordBytes r ++ more in
@@ -376,7 +394,7 @@ module _ (body : List ℕ) (h : Bytes body) where
   SameFields k ws = totalOf ws ≤ length body → inWidths ws (fieldsOf (recordFrom k (cutInto ws body))) ≡ cutInto ws body
 
   same-fields : Entries SameFields layouts
-  unfolding layouts totalOf cutInto fieldsOf recordFrom headingFrom readingFrom numberAt signedAt field inWidths fieldBytes
+  unfolding layouts totalOf cutInto fieldsOf weightFields recordFrom headingFrom readingFrom numberAt signedAt field inWidths fieldBytes
   same-fields = (
     λ r. again-same (2 ∷ 2 ∷ 1 ∷ 2 ∷ 1 ∷ 1 ∷ []) body r h,
     (
@@ -385,11 +403,63 @@ module _ (body : List ℕ) (h : Bytes body) where
         λ r. hour-again r,
         (
           λ r. again-same (1 ∷ 2 ∷ 2 ∷ 4 ∷ []) body r h,
-          (λ r. price-again r, (λ r. hour-again r, (λ r. again-same (4 ∷ []) body r h, tt))),
+          (
+            λ r. price-again r,
+            (λ r. hour-again r, (λ r. again-same (4 ∷ []) body r h, (λ r. again-same (1 ∷ 2 ∷ 2 ∷ 4 ∷ 8 ∷ 8 ∷ []) body r h, tt))),
+          ),
         ),
       ),
     ),
   )
+
+  -- and what stands in its fields has room in them
+  abbrev HasRoom : ℕ → List ℕ → Type 0
+  HasRoom k ws = totalOf ws ≤ length body → Held (recordFrom k (cutInto ws body))
+
+  small-at : (place width : ℕ) → place + width ≤ length body → numberOnto 0 (take width (drop place body)) < 256 ^ width
+  small-at place width b =
+      number-small width (take width (drop place body)) (length-take-le width (drop place body) (rw (length-drop place body) (omega arith)))
+      (bytes-take width (drop place body) (bytes-drop place body h))
+
+  weights-after : (a b c d : ℕ) (l : List ℕ) → drop a (drop b (drop c (drop d l))) ≡ drop (d + c + b + a) l
+  weights-after a b c d l =
+      ap (λ (x : List ℕ). drop a (drop b x)) (drop-drop c d l) ∙ ap (drop a) (drop-drop b (d + c) l) ∙ drop-drop a (d + c + b) l
+
+  has-room : Entries HasRoom layouts
+  unfolding layouts totalOf cutInto recordFrom readingFrom numberAt field
+  has-room = (
+    λ r. tt,
+    (
+      λ r. tt,
+      (
+        λ r. tt,
+        (
+          λ r. tt,
+          (
+            λ r. tt,
+            (
+              λ r. tt,
+              (
+                λ r. small-at 0 4 r,
+                (
+                  λ r. (
+                    rw (weights-after 4 2 2 1 body) (small-at 9 8 (omega arith)),
+                    rw (weights-after 4 2 2 1 body, drop-drop 8 9 body) (small-at 17 8 (omega arith)),
+                  ),
+                  tt,
+                ),
+              ),
+            ),
+          ),
+        ),
+      ),
+    ),
+  )
+
+-- WHAT IS READ FROM BYTES HAS ROOM IN THEM
+pub read-is-held : (kind : ℕ) (body : List ℕ) → Bytes body → known kind ≡ true → bodyLength kind ≤ length body → Held (recordAt (kind ∷ body))
+unfolding recordAt kindAt at bodyLength
+read-is-held kind body h k b = each-kind (HasRoom body h) (has-room body h) kind k b
 
 -- what a reading that gives a record says of the bytes
 pub given-by : {A : Type 0} (v : Verdict) (a b : A) → answer v a ≡ given b → (v ≡ accepted) × (a ≡ b)

@@ -71,7 +71,7 @@ within-size zero (negsuc n) e = absurd (let z : _≡_ {A = ℕ} 0 1 = cc in omeg
 within-size (suc most) (negsuc n) e = omega (arith, leb-true n most (both-pass (leb n most) true e .0))
 
 -- Every member of a list is such: one more, none, one of them.
-every-more : {A : Type 0} (is : A → Type 0) (l : List A) (x : A) → Every is l → is x → Every is (l ++ (x ∷ []))
+pub every-more : {A : Type 0} (is : A → Type 0) (l : List A) (x : A) → Every is l → is x → Every is (l ++ (x ∷ []))
 every-more is [] x h k = (k, tt)
 every-more is (y ∷ l) x h k = (h .0, every-more is l x (h .1) k)
 

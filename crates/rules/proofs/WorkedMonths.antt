@@ -1,10 +1,10 @@
 -- The worked months, each by computing the definitions from the file's bytes to the printed text.
 use mathlib.Core.Path.{refl}
-use Rattle.rules.specs.WorkedMonths.{fileOf, supply, partyOf, readingOf, headingOf, S1, D3, wholeOre, begin, fixedHours, refixedHours, prices, small, unrefixed, closing, opening, WorkedMonths}
+use Rattle.rules.specs.WorkedMonths.{fileOf, supply, partyOf, readingOf, longReadingOf, headingOf, S1, D3, wholeOre, begin, fixedHours, refixedHours, prices, small, unrefixed, closing, emptyFirst, opening, WorkedMonths}
 use Rattle.rules.proofs.Computed.{words, hours, parts, records, files, months, texts, reports}
 
 pub worked-months : WorkedMonths
-unfolding words hours parts records files months texts reports fileOf supply partyOf readingOf headingOf S1 D3 wholeOre begin fixedHours refixedHours prices small unrefixed closing opening
+unfolding words hours parts records files months texts reports fileOf supply partyOf readingOf longReadingOf headingOf S1 D3 wholeOre begin fixedHours refixedHours prices small unrefixed closing emptyFirst opening
 worked-months =
     record {
       S1-lines = refl;
@@ -39,6 +39,14 @@ worked-months =
       span-before-energy = refl;
       refused-12 = refl;
       refused-13 = refl;
+      over-months = refl;
+      just-the-whole = refl;
+      refused-18 = refl;
+      refused-18-true-sum = refl;
+      refused-18-whole = refl;
+      exceeded-before-nothing = refl;
+      nothing-of-the-earlier = refl;
+      range-of-the-long = refl;
       refused-14 = refl;
       refused-15 = refl;
       refused-17 = refl;

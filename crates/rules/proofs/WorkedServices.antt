@@ -1,11 +1,11 @@
 -- The services' cases, each by computing the definitions.
 use mathlib.Core.Path.{refl}
-use Rattle.rules.specs.WorkedMonths.{supply, partyOf, readingOf}
-use Rattle.rules.specs.WorkedServices.{none, still, WorkedServices}
-use Rattle.rules.proofs.Computed.{words, hours, parts, records, plains, services}
+use Rattle.rules.specs.WorkedMonths.{supply, partyOf, readingOf, longReadingOf}
+use Rattle.rules.specs.WorkedServices.{none, still, monthsOf, meter, planPart, WorkedServices}
+use Rattle.rules.proofs.Computed.{words, hours, parts, records, plains, services, plans}
 
 pub worked-services : WorkedServices
-unfolding words hours parts records plains services supply partyOf readingOf none still
+unfolding words hours parts records plains services plans supply partyOf readingOf longReadingOf none still monthsOf meter planPart
 worked-services =
     record {
       hours-745 = refl;
@@ -57,6 +57,8 @@ worked-services =
       alone-hour = refl;
       alone-party = refl;
       alone-span = refl;
+      alone-long-span = refl;
+      alone-any-weights = refl;
       write-share-before-gln = refl;
       write-gln = refl;
       write-gs1 = refl;
@@ -65,6 +67,8 @@ worked-services =
       write-short = refl;
       write-long = refl;
       write-nothing-further-on = refl;
+      write-any-weights = refl;
+      write-long-short = refl;
       plain-unknown = refl;
       plain-too-many = refl;
       plain-too-few = refl;
@@ -75,4 +79,23 @@ worked-services =
       plain-negative-price = refl;
       plain-count = refl;
       plain-count-above = refl;
+      plain-weights = refl;
+      plain-weight-above = refl;
+      plain-weight-below = refl;
+      plan-lines = refl;
+      plan-passes = refl;
+      plan-party = refl;
+      plan-parties = refl;
+      plan-no-hours = refl;
+      plan-746-hours = refl;
+      plan-curves = refl;
+      plan-no-month = refl;
+      plan-14-months = refl;
+      plan-empty-first = refl;
+      plan-empty-last = refl;
+      plan-empty-only = refl;
+      plan-beyond = refl;
+      plan-energy = refl;
+      plan-curve = refl;
+      plan-nothing = refl;
     }

@@ -43,6 +43,7 @@ pub mod ReadingRefused
 pub mod Month
 pub mod PlainRecord
 pub mod Services
+pub mod Plan
 pub mod Statement
 pub mod HoursReport
 pub mod WorkedCases

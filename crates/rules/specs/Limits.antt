@@ -60,6 +60,14 @@ greatestPrice = 5000000
 abbrev pub mostWeights : ℕ
 mostWeights = 8784
 
+-- W3: "the whole is over 8,784,000,000,000"
+abbrev pub greatestWhole : ℕ
+greatestWhole = 8784000000000
+
+-- W3: "A yearly reading crosses up to thirteen month files."
+abbrev pub mostMonths : ℕ
+mostMonths = 13
+
 -- "distributed outside -1..2,000,000,001" (Refusal numbers, reconciliation of one hour)
 abbrev pub greatestDistributed : ℕ
 greatestDistributed = 2000000001

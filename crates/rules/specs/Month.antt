@@ -8,12 +8,12 @@ use lib.ListN.{length, getD}
 use Rattle.rules.specs.Distributed.{distributedFigure}
 use Rattle.rules.specs.Flows.{Flows, W, residualWh, curveNumber, appliedSeries, judged, verdictOf}
 use Rattle.rules.specs.Invoice.{invoiceOre}
-use Rattle.rules.specs.Limits.{greatestW, greatestCurveNumber, greatestPeriodised, missing, estimated}
+use Rattle.rules.specs.Limits.{greatestW, greatestCurveNumber, greatestWhole, greatestPeriodised, missing, estimated}
 use Rattle.rules.specs.MonthFile.{MonthFile, H, P, nothingYet, readMonth}
-use Rattle.rules.specs.Periodised.{periodisedFigure}
+use Rattle.rules.specs.Periodised.{periodisedFigure, partOfE}
 use Rattle.rules.specs.Reconciliation.{gridLoss, lossOf, differenceOf, amountMillionths}
-use Rattle.rules.specs.Record.{Party, Reading}
-use Rattle.rules.specs.Refusals.{notRefixed, wOutOfRange, curveTooLarge, nothingToFollow, periodisedTooLarge, wrongLength}
+use Rattle.rules.specs.Record.{Party, Over, thisMonth, manyMonths, Reading}
+use Rattle.rules.specs.Refusals.{notRefixed, wOutOfRange, curveTooLarge, wholeExceeded, nothingToFollow, periodisedTooLarge, wrongLength}
 use Rattle.rules.specs.Refusals.{Verdict, refused, Answer, given, refusal, unless, andThen, first, inTurn}
 use Rattle.rules.specs.Setting.{Setting, provisional, isProvisional}
 use Rattle.rules.specs.Words.{sum, sumℤ, count, within}
@@ -26,7 +26,7 @@ unfoldable pub flowsAt : List Flows → ℕ → Flows
 flowsAt series t = getD series t (record { status = missing; net = pos 0; production = 0; hourly = 0; flex = 0 })
 
 unfoldable pub readingAt : MonthFile → ℕ → Reading
-readingAt m j = getD (m .readings) j (record { party = 0; a = 0; b = 0; e = 0 })
+readingAt m j = getD (m .readings) j (record { party = 0; a = 0; b = 0; e = 0; over = thisMonth })
 
 unfoldable pub priceAt : MonthFile → ℕ → ℤ
 priceAt m t = getD (m .prices) t (pos 0)
@@ -54,18 +54,32 @@ curve m t = curveNumber (fixedWh m t) (monthW m)
 unfoldable pub distributed : MonthFile → ℕ → ℕ → ℤ
 distributed m t i = distributedFigure (P m) (shareOf m) (appliedWh m) t i
 
--- "A reading is E Wh over the hours from a to before b. Its weights are the part of the month's curve from its first hour to its last."
+-- "A reading is E Wh over the hours from a to before b. Its weights are the part of the month's curve from its first hour to its last." (Of one over several
+-- months: this month's hours of it.)
 unfoldable pub weightOf : MonthFile → Reading → ℕ → ℕ
 weightOf m r k = curve m (r .a + k)
 
--- "S is their sum."
+-- "S is their sum.": W3: "the month's own weight"
 unfoldable pub S : MonthFile → Reading → ℕ
 S m r = sum (r .b - r .a) (weightOf m r)
+
+-- W3: "weight before this month": none where the reading lies in this month
+unfoldable pub weightBefore : Over → ℕ
+weightBefore thisMonth = 0
+weightBefore (manyMonths before whole) = before
+
+-- W3: "weight of the whole reading": the month's own where the reading lies in this month
+unfoldable pub wholeWeight : Over → ℕ → ℕ
+wholeWeight thisMonth own = own
+wholeWeight (manyMonths before whole) own = whole
+
+unfoldable pub wholeOf : MonthFile → Reading → ℕ
+wholeOf m r = wholeWeight (r .over) (S m r)
 
 -- the reading's figure in hour t of the month: none outside its hours
 unfoldable pub readingFigure : MonthFile → Reading → ℕ → ℕ
 readingFigure m r t =
-    cond (leb (r .a) t && ltb t (r .b)) (periodisedFigure (r .e) (r .b - r .a) (weightOf m r) (t - r .a)) 0
+    cond (leb (r .a) t && ltb t (r .b)) (periodisedFigure (r .e) (weightBefore (r .over)) (wholeOf m r) (weightOf m r) (t - r .a)) 0
 
 -- what reading j gives party i in hour t: its figure, if it is the party's
 unfoldable pub figureFor : MonthFile → ℕ → ℕ → ℕ → ℕ
@@ -95,9 +109,15 @@ monthDistributed m i = sumℤ (H m) (λ t. distributed m t i)
 unfoldable pub monthPeriodised : MonthFile → ℕ → ℕ
 monthPeriodised m i = sum (H m) (λ t. periodised m t i)
 
--- what a party's readings say that it has used: the E of each (law `periodised-of-readings`: this is what its periodised figures of the month add up to)
+-- What a reading says was used in this month: its E where it lies in this month, else this month's part of E.
+unfoldable pub energyOf : Over → ℕ → ℕ → ℕ
+energyOf thisMonth e own = e
+energyOf (manyMonths before whole) e own = partOfE e before own whole
+
+-- what a party's readings say that it has used (law `periodised-of-readings`: this is what its periodised figures of the month add up to)
 unfoldable pub energyFor : MonthFile → ℕ → ℕ → ℕ
-energyFor m i j = cond (eqb (readingAt m j .party) i) (readingAt m j .e) 0
+energyFor m i j =
+    cond (eqb (readingAt m j .party) i) (energyOf (readingAt m j .over) (readingAt m j .e) (S m (readingAt m j))) 0
 
 unfoldable pub readEnergy : MonthFile → ℕ → ℕ
 readEnergy m i = sum (length (m .readings)) (energyFor m i)
@@ -130,9 +150,25 @@ hourVerdict series t = verdictOf (judged (flowsAt series t)) t
 unfoldable pub curveVerdict : MonthFile → ℕ → Verdict
 curveVerdict m t = unless (leb (curve m t) greatestCurveNumber) curveTooLarge t
 
--- "13 by reading"
+-- 18 does not apply (W3): "weight before plus the month's own weight" is at most the whole, and the whole at most 8,784,000,000,000. A reading in this month
+-- always passes (law `this-month-fits`).
+unfoldable pub weightsFit : ℕ → ℕ → ℕ → Bool
+weightsFit before own whole = leb (before + own) whole && leb whole greatestWhole
+
+-- 13 does not apply: "E positive and S zero", W3: "Zero whole weight with positive E is 13"
+unfoldable pub followsWhole : ℕ → ℕ → Bool
+followsWhole e whole = eqb e 0 || leb 1 whole
+
+-- what is tested of a reading at a place: 18, "tested before 13 of the same reading"
+unfoldable pub readingChecks : MonthFile → Reading → ℕ → List Verdict
+readingChecks m r place =
+    unless (weightsFit (weightBefore (r .over)) (S m r) (wholeOf m r)) wholeExceeded place
+    ∷ unless (followsWhole (r .e) (wholeOf m r)) nothingToFollow place
+    ∷ []
+
+-- "13 by reading", W3: 18 and 13; "place is the reading"
 unfoldable pub readingVerdict : MonthFile → ℕ → Verdict
-readingVerdict m j = unless (eqb (readingAt m j .e) 0 || leb 1 (S m (readingAt m j))) nothingToFollow j
+readingVerdict m j = first (readingChecks m (readingAt m j) j)
 
 -- "14 by hour"
 unfoldable pub periodisedVerdict : MonthFile → ℕ → Verdict
@@ -143,7 +179,7 @@ unfoldable pub refixedVerdict : Setting → ℕ → Verdict
 refixedVerdict setting refixed = unless (isProvisional setting || leb 1 refixed) notRefixed 0
 
 -- THE ORDER OF REFUSALS AFTER THE FILE IS READ. W1: 17 "after the file is read and before 6". "Then 6; then the fixed hours in order, each 7, 8, 9; the refixed
--- hours likewise; 10 by hour; 13 by reading; 14 by hour".
+-- hours likewise; 10 by hour; 13 by reading; 14 by hour". W3: by reading 18 and then 13.
 unfoldable pub monthChecks : Setting → MonthFile → List Verdict
 monthChecks setting m =
     refixedVerdict setting (length (m .refixed))

@@ -1,11 +1,11 @@
 -- The whole month file (01 "The month file" and "Refusal numbers"): a reader goes through it record by record.
-use mathlib.Core.Bool.{Bool, cond}
+use mathlib.Core.Bool.{Bool, true, false, cond}
 use mathlib.Core.List.{List, [], _∷_, _++_}
 use Prim.Native.Nat.{ℕ, zero, suc, _+_}
-use lib.Dec.{eqb, leb}
+use lib.Dec.{leb}
 use lib.ListN.{length, drop}
 use Rattle.rules.specs.Limits.{longestFile}
-use Rattle.rules.specs.Record.{Record, bodyLength, known, kindAt, kindOf, endKind, recordAt, inFile, checks}
+use Rattle.rules.specs.Record.{Record, heading, party, fixedHour, reading, price, refixedHour, end, bodyLength, known, kindAt, recordAt, inFile, checks}
 use Rattle.rules.specs.Refusals.{fileFault, unknownKind, outOfOrder, Verdict, accepted, refused, Answer, given, refusal, unless, first}
 use Rattle.rules.specs.Setting.{Setting}
 use Rattle.rules.specs.Words.{within}
@@ -23,7 +23,13 @@ recordChecks setting m n bytes =
     ∷ checks (inFile m n) (recordAt bytes)
 
 unfoldable pub isEnd : Record → Bool
-isEnd r = eqb (kindOf r) endKind
+isEnd (heading h) = false
+isEnd (party p) = false
+isEnd (fixedHour hour f) = false
+isEnd (reading r) = false
+isEnd (price hour p) = false
+isEnd (refixedHour hour f) = false
+isEnd (end count) = true
 
 -- "for .. bytes after it the place is the number of complete records. Bytes after the end are always 1, never 2, and come after its 15."
 unfoldable pub closed : MonthFile → ℕ → List ℕ → Answer MonthFile

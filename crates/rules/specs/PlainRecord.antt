@@ -10,7 +10,8 @@ use lib.IntN.{ℤ, pos, negsuc}
 use lib.ListN.{getD}
 use lib.Signed.{leZ}
 use Rattle.rules.specs.Flows.{Flows}
-use Rattle.rules.specs.Record.{headingKind, partyKind, fixedHourKind, readingKind, priceKind, refixedHourKind, endKind, known, Heading, Reading, Record, neverAsked}
+use Rattle.rules.specs.Record.{headingKind, partyKind, fixedHourKind, readingKind, priceKind, refixedHourKind, endKind, longReadingKind, known, Heading}
+use Rattle.rules.specs.Record.{Over, thisMonth, manyMonths, Reading, Record, neverAsked}
 use Rattle.rules.specs.Record.{heading, party, fixedHour, reading, price, refixedHour, end, Field, number, signedNumber, digits, fieldsOf, writeVerdict}
 use Rattle.rules.specs.Refusals.{unknownKind, outOfRange, Verdict, unless, first}
 
@@ -34,18 +35,19 @@ unfoldable pub plainFlows : List ℤ → Flows
 plainFlows l =
     record { status = nthNoSign l 1; net = nth l 2; production = nthNoSign l 3; hourly = nthNoSign l 4; flex = nthNoSign l 5 }
 
-unfoldable pub plainReading : List ℤ → Reading
-plainReading l = record { party = nthNoSign l 0; a = nthNoSign l 1; b = nthNoSign l 2; e = nthNoSign l 3 }
+unfoldable pub plainReading : List ℤ → Over → Reading
+plainReading l over = record { party = nthNoSign l 0; a = nthNoSign l 1; b = nthNoSign l 2; e = nthNoSign l 3; over = over }
 
 unfoldable pub plainRecord : ℕ → List ℤ → List ℕ → Record
 plainRecord kind l gln =
     cond (eqb kind headingKind) (heading (plainHeading l))
     (cond (eqb kind partyKind) (party (record { gln = gln; share = nthNoSign l 0 }))
     (cond (eqb kind fixedHourKind) (fixedHour (nthNoSign l 0) (plainFlows l))
-    (cond (eqb kind readingKind) (reading (plainReading l))
+    (cond (eqb kind readingKind) (reading (plainReading l thisMonth))
     (cond (eqb kind priceKind) (price (nthNoSign l 0) (nth l 1))
     (cond (eqb kind refixedHourKind) (refixedHour (nthNoSign l 0) (plainFlows l))
-    (cond (eqb kind endKind) (end (nthNoSign l 0)) neverAsked))))))
+    (cond (eqb kind endKind) (end (nthNoSign l 0))
+    (cond (eqb kind longReadingKind) (reading (plainReading l (manyMonths (nthNoSign l 4) (nthNoSign l 5)))) neverAsked)))))))
 
 -- 4: "a list of fields of another length than the kind has", and a number "below 0 in a field that has no sign .., whatever the field". Every field has its
 -- number and no number is left over; a GLN's digits are none of the numbers.
@@ -58,15 +60,18 @@ standIn (signedNumber s ∷ fields) [] = false
 standIn (signedNumber s ∷ fields) (z ∷ numbers) = standIn fields numbers
 standIn (digits gln ∷ fields) numbers = standIn fields numbers
 
--- 4: "the end count may be any 4 bytes" (01), and no more than they hold. (Every other field has a rule of its own, which a number beyond its field fails.)
-unfoldable pub countHeld : ℕ → List ℤ → Bool
-countHeld kind numbers = cond (eqb kind endKind) (ltb (nthNoSign numbers 0) (256 ^ 4)) true
+-- 4: "the end count may be any 4 bytes" (01), W3: "The record writer takes any weights", of 8 bytes each; and no more than the bytes hold. (Every other field
+-- has a rule of its own, which a number beyond its field fails.)
+unfoldable pub fieldsHold : ℕ → List ℤ → Bool
+fieldsHold kind numbers =
+    cond (eqb kind endKind) (ltb (nthNoSign numbers 0) (256 ^ 4))
+    (cond (eqb kind longReadingKind) (ltb (nthNoSign numbers 4) (256 ^ 8) && ltb (nthNoSign numbers 5) (256 ^ 8)) true)
 
 -- 2 first, then 4 of the list, then as the writer of that record: "above, by the field's own rule (a or b 11, E 12, else 4)"
 unfoldable pub plainVerdict : ℕ → List ℤ → List ℕ → ℕ → Verdict
 plainVerdict kind numbers gln lent =
     first
     (unless (known kind) unknownKind 0
-    ∷ unless (standIn (fieldsOf (plainRecord kind numbers gln)) numbers && countHeld kind numbers) outOfRange 0
+    ∷ unless (standIn (fieldsOf (plainRecord kind numbers gln)) numbers && fieldsHold kind numbers) outOfRange 0
     ∷ writeVerdict (plainRecord kind numbers gln) lent
     ∷ [])

@@ -11,14 +11,16 @@ use Rattle.rules.specs.MonthFile.{MonthFile, nothingYet, with, due, reco
 use Rattle.rules.specs.Record.{Record, end, recordBytes, inFile, checks}
 use Rattle.rules.specs.Refusals.{Refusal, fileFault}
 use Rattle.rules.specs.Setting.{Setting}
-use Rattle.rules.specs.WellFormed.{bytesOfAll}
+use Rattle.rules.specs.WellFormed.{Held, bytesOfAll}
 use Rattle.rules.specs.Words.{within}
 
--- record number n passes, after what was read before it: it is not the end, it is due, and no check of its fields refuses
+-- record number n passes, after what was read before it: it is not the end, it is due, no check of its fields refuses, and they have room in
+-- their bytes
 pub record Passes (m : MonthFile) (n : ℕ) (r : Record) : Type 0 where
   pub not-the-end : isEnd r ≡ false
   pub is-due : due m r ≡ true
   pub none-refuses : NoneRefuses (checks (inFile m n) r)
+  pub held : Held r
 
 -- some records pass one after the other, the first of them as number n
 abbrev pub AllPass : MonthFile → ℕ → List Record → Type 0

@@ -35,13 +35,17 @@ refixedHourKind = 6
 abbrev pub endKind : ℕ
 endKind = 7
 
+-- W3: "A new record 08 .. stands among the 04 records": a reading over several months
+abbrev pub longReadingKind : ℕ
+longReadingKind = 8
+
 -- "03 fixed hour: hour 2, status 1, net supply 8, production 8, hourly 8, flex 8", "06 refixed hour: as 03"
 abbrev pub hourWidths : List ℕ
 hourWidths = 2 ∷ 1 ∷ 8 ∷ 8 ∷ 8 ∷ 8 ∷ []
 
 -- The table of 01, "kind", "fields (bytes)": each kind with the number of bytes of each of its fields, in order. "01 heading: area 2, year 2, month 1,
 -- hours H 2, parties P 1, loss carrier 1", "02 party: GLN 13 ASCII digits, load share 8", "04 reading: party 1, a 2, b 2, E 4", "05 price: hour 2, price 4",
--- "07 end: number of records before it 4".
+-- "07 end: number of records before it 4". W3: "08 (body 25: party 1, a 2, b 2, E 4, weight before this month 8, weight of the whole reading 8)".
 unfoldable pub layouts : List (ℕ × List ℕ)
 layouts =
     (headingKind, 2 ∷ 2 ∷ 1 ∷ 2 ∷ 1 ∷ 1 ∷ [])
@@ -51,6 +55,7 @@ layouts =
     ∷ (priceKind, 2 ∷ 4 ∷ [])
     ∷ (refixedHourKind, hourWidths)
     ∷ (endKind, 4 ∷ [])
+    ∷ (longReadingKind, 1 ∷ 2 ∷ 2 ∷ 4 ∷ 8 ∷ 8 ∷ [])
     ∷ []
 
 -- the widths that a table has for a kind: none for a kind that is not in it
@@ -61,7 +66,7 @@ widthsIn (entry ∷ more) kind = cond (eqb (entry .0) kind) (entry .1) (widthsIn
 unfoldable pub fieldWidths : ℕ → List ℕ
 fieldWidths kind = widthsIn layouts kind
 
--- "The body lengths, by kind, are these": a body is its fields one after the other. (Law `lengths-are`: 9, 21, 35, 9, 6, 35, 4.) Of an unknown kind it is 0.
+-- "The body lengths, by kind, are these": a body is its fields one after the other. (Law `lengths-are`: 9, 21, 35, 9, 6, 35, 4, 25.) Of an unknown kind it is 0.
 unfoldable pub totalOf : List ℕ → ℕ
 totalOf [] = 0
 totalOf (width ∷ widths) = width + totalOf widths
@@ -85,13 +90,21 @@ pub record Party : Type 0 where
   pub gln : List ℕ
   pub share : ℕ
 
+-- What a reading's E lies over: the hours from a to before b of this month (04), or several months, of which those before this one weigh so much and all
+-- together so much (W3, 08: "weight before this month 8, weight of the whole reading 8").
+pub data Over : Type 0 where
+  thisMonth : Over
+  manyMonths : ℕ → ℕ → Over
+
+-- W3: '"reading" in 01 counts 04 and 08 together'
 pub record Reading : Type 0 where
   pub party : ℕ
   pub a : ℕ
   pub b : ℕ
   pub e : ℕ
+  pub over : Over
 
--- A record, by kind. Of an hour, a refixed hour and a price the first number is the hour field; an end has the number of records before it.
+-- A record, by kind; a reading is of the kind 04 or 08 by what it lies over. Of an hour, a refixed hour and a price the first number is the hour field; an end has the number of records before it.
 pub data Record : Type 0 where
   heading : Heading → Record
   party : Party → Record
@@ -142,8 +155,8 @@ unfoldable pub flowsFrom : List (List ℕ) → Flows
 flowsFrom fields =
     record { status = numberAt fields 1; net = signedAt fields 2; production = numberAt fields 3; hourly = numberAt fields 4; flex = numberAt fields 5 }
 
-unfoldable pub readingFrom : List (List ℕ) → Reading
-readingFrom fields = record { party = numberAt fields 0; a = numberAt fields 1; b = numberAt fields 2; e = numberAt fields 3 }
+unfoldable pub readingFrom : List (List ℕ) → Over → Reading
+readingFrom fields over = record { party = numberAt fields 0; a = numberAt fields 1; b = numberAt fields 2; e = numberAt fields 3; over = over }
 
 -- An unknown kind is no record and is refused (2) before its record is asked for. A definition has to give something: this, which nothing looks at.
 unfoldable pub neverAsked : Record
@@ -155,10 +168,11 @@ recordFrom kind fields =
     cond (eqb kind headingKind) (heading (headingFrom fields))
     (cond (eqb kind partyKind) (party (record { gln = field fields 0; share = numberAt fields 1 }))
     (cond (eqb kind fixedHourKind) (fixedHour (numberAt fields 0) (flowsFrom fields))
-    (cond (eqb kind readingKind) (reading (readingFrom fields))
+    (cond (eqb kind readingKind) (reading (readingFrom fields thisMonth))
     (cond (eqb kind priceKind) (price (numberAt fields 0) (signedAt fields 1))
     (cond (eqb kind refixedHourKind) (refixedHour (numberAt fields 0) (flowsFrom fields))
-    (cond (eqb kind endKind) (end (numberAt fields 0)) neverAsked))))))
+    (cond (eqb kind endKind) (end (numberAt fields 0))
+    (cond (eqb kind longReadingKind) (reading (readingFrom fields (manyMonths (numberAt fields 4) (numberAt fields 5)))) neverAsked)))))))
 
 -- the kind and the record that stand at the start of some bytes
 unfoldable pub kindAt : List ℕ → ℕ
@@ -185,11 +199,15 @@ inWidths (width ∷ widths) [] = []
 inWidths (width ∷ widths) (f ∷ fields) = fieldBytes width f ∷ inWidths widths fields
 
 -- a record's kind, and its fields in order
+abbrev pub readingKindOf : Over → ℕ
+readingKindOf thisMonth = readingKind
+readingKindOf (manyMonths before whole) = longReadingKind
+
 abbrev pub kindOf : Record → ℕ
 kindOf (heading h) = headingKind
 kindOf (party p) = partyKind
 kindOf (fixedHour hour f) = fixedHourKind
-kindOf (reading r) = readingKind
+kindOf (reading r) = readingKindOf (r .over)
 kindOf (price hour p) = priceKind
 kindOf (refixedHour hour f) = refixedHourKind
 kindOf (end count) = endKind
@@ -198,12 +216,16 @@ unfoldable pub hourFields : ℕ → Flows → List Field
 hourFields hour f =
     number hour ∷ number (f .status) ∷ signedNumber (f .net) ∷ number (f .production) ∷ number (f .hourly) ∷ number (f .flex) ∷ []
 
+unfoldable pub weightFields : Over → List Field
+weightFields thisMonth = []
+weightFields (manyMonths before whole) = number before ∷ number whole ∷ []
+
 unfoldable pub fieldsOf : Record → List Field
 fieldsOf (heading h) =
     number (h .area) ∷ number (h .year) ∷ number (h .month) ∷ number (h .hours) ∷ number (h .parties) ∷ number (h .carrier) ∷ []
 fieldsOf (party p) = digits (p .gln) ∷ number (p .share) ∷ []
 fieldsOf (fixedHour hour f) = hourFields hour f
-fieldsOf (reading r) = number (r .party) ∷ number (r .a) ∷ number (r .b) ∷ number (r .e) ∷ []
+fieldsOf (reading r) = number (r .party) ∷ number (r .a) ∷ number (r .b) ∷ number (r .e) ∷ weightFields (r .over)
 fieldsOf (price hour p) = number hour ∷ signedNumber p ∷ []
 fieldsOf (refixedHour hour f) = hourFields hour f
 fieldsOf (end count) = number count ∷ []
@@ -271,7 +293,7 @@ with m (refixedHour hour f) = setRefixed m (m .refixed ++ (f ∷ []))
 with m (end count) = m
 
 -- THE ORDER (3, "kind or hour field out of order"). "Order: one 01; P times 02; H times 03; none or H times 06; H times 05; any number of 04; one 07. Hour
--- fields run 0, 1, 2 and so on": whether a record is due next
+-- fields run 0, 1, 2 and so on": whether a record is due next. W3: an 08 "stands among the 04 records", in any order.
 unfoldable pub due : MonthFile → Record → Bool
 due m (heading h) = eqb (H m) 0
 due m (party p) = ltb (length (m .parties)) (P m)
@@ -335,6 +357,7 @@ unfoldable pub hourInRange : ℕ → ℕ → Flows → Bool
 hourInRange hours hour f = ltb hour hours && flowsInRange f && silentIsZero f
 
 -- THE CHECKS OF A RECORD'S FIELDS, kind by kind, each list in the order "4, 5, 11, 12, 15" (5: "GLN not digits, wrong check digit, not rising").
+-- W3: those of an 08 are those of a 04; its weights may be any.
 unfoldable pub checks : Position → Record → List Verdict
 checks here (heading h) = unless (headingInRange h) outOfRange (placeOf here) ∷ []
 checks here (party p) =
@@ -366,7 +389,8 @@ readAlone bytes =
     ∷ checks alone (recordAt bytes)))
     (recordAt bytes)
 
--- "The record writer .. judges the fields of one record (4, 5, 11, 12)", then 16, "record writer: too short", all at place 0.
+-- "The record writer .. judges the fields of one record (4, 5, 11, 12)", then 16, "record writer: too short", all at place 0. W3: "The record writer takes any
+-- weights."
 unfoldable pub writeVerdict : Record → ℕ → Verdict
 writeVerdict r lent = first (checks alone r ++ (unless (leb (length (recordBytes r)) lent) wrongLength 0 ∷ []))
 

@@ -40,6 +40,8 @@ pub data Refusal : Type 0 where
   wrongLength : Refusal
   -- W1: "no refixed series in a final run"
   notRefixed : Refusal
+  -- W3: "weight before plus the month's own weight exceeds the whole, or the whole is over 8,784,000,000,000"
+  wholeExceeded : Refusal
 
 abbrev pub numberOf : Refusal → ℕ
 numberOf fileFault = 1
@@ -59,6 +61,7 @@ numberOf periodisedTooLarge = 14
 numberOf wrongCount = 15
 numberOf wrongLength = 16
 numberOf notRefixed = 17
+numberOf wholeExceeded = 18
 
 -- "A refusal returns its number and a place, and the call has written nothing." "Places count from 0"
 pub data Verdict : Type 0 where

@@ -118,7 +118,7 @@ distributedAt shares residuals k =
 unfoldable pub distributionFigures : List ℕ → List ℕ → List ℤ
 distributionFigures shares residuals = figures (length residuals * length shares) (distributedAt shares residuals)
 
--- PERIODISATION: E, weights. 16; "periodisation 11, 12, 10, 13 (all at place 0 but 10)".
+-- PERIODISATION: E, weights, all of a reading: nothing before them, and their sum S as the whole. 16; "periodisation 11, 12, 10, 13 (all at place 0 but 10)".
 unfoldable pub periodisationChecks : ℕ → List ℕ → ℕ → List Verdict
 periodisationChecks e weights lent =
     unless (eqb lent (length weights)) wrongLength 0
@@ -129,7 +129,7 @@ periodisationChecks e weights lent =
     ∷ []
 
 unfoldable pub periodisationFigures : ℕ → List ℕ → List ℕ
-periodisationFigures e weights = figures (length weights) (periodisedFigure e (length weights) (at weights))
+periodisationFigures e weights = figures (length weights) (periodisedFigure e 0 (sum (length weights) (at weights)) (at weights))
 
 -- "-1..2,000,000,001"
 unfoldable pub distributedFits : ℤ → Bool

@@ -4,13 +4,14 @@ use mathlib.Core.Bool.{true}
 use mathlib.Core.List.{List, [], _∷_, _++_}
 use mathlib.Core.Logic.{_⊎_}
 use mathlib.Core.Path.{_≡_}
-use Prim.Native.Nat.{ℕ, suc, _≤_, _<_}
+use Prim.Native.Nat.{ℕ, suc, _^_, _≤_, _<_}
 use lib.IntN.{ℤ}
 use lib.ListN.{length, getD}
 use Rattle.rules.specs.Flows.{Flows, flowsInRange, silentIsZero}
 use Rattle.rules.specs.Gln.{validGln, digitsOnto}
 use Rattle.rules.specs.Limits.{greatestShare, greatestEnergy, greatestPrice, longestFile}
-use Rattle.rules.specs.Record.{Heading, Party, Reading, Record, heading, party, fixedHour, reading, price, refixedHour, end, recordBytes, MonthFile, H, P, headingInRange}
+use Rattle.rules.specs.Record.{Heading, Party, Over, thisMonth, manyMonths, Reading, Record, heading, party, fixedHour, reading, price, refixedHour, end}
+use Rattle.rules.specs.Record.{recordBytes, MonthFile, H, P, headingInRange}
 use Rattle.rules.specs.Words.{withinℤ}
 
 -- bytes: every one below 256
@@ -36,7 +37,7 @@ asParty n p = party p
 abbrev pub asReading : ℕ → Reading → Record
 asReading n r = reading r
 
--- "Order: one 01; P times 02; H times 03; none or H times 06; H times 05; any number of 04; one 07.": all but the last
+-- "Order: one 01; P times 02; H times 03; none or H times 06; H times 05; any number of 04; one 07.": all but the last. W3: an 08 "stands among the 04 records".
 unfoldable pub recordsOf : MonthFile → List Record
 recordsOf m =
     heading (m .heading)
@@ -75,6 +76,24 @@ PriceRight z = withinℤ greatestPrice z ≡ true
 abbrev pub ReadingRight : ℕ → ℕ → Reading → Type 0
 ReadingRight hours parties r = (r .party < parties) × (r .a < r .b) × (r .b ≤ hours) × (r .e ≤ greatestEnergy)
 
+-- WHAT NO RULE BOUNDS IS WHAT ITS FIELD CAN HOLD. W3: weights of 8 bytes each
+abbrev pub WeightsHeld : Over → Type 0
+WeightsHeld thisMonth = Unit
+WeightsHeld (manyMonths before whole) = (before < 256 ^ 8) × (whole < 256 ^ 8)
+
+-- and "the end count may be any 4 bytes"
+abbrev pub Held : Record → Type 0
+Held (heading h) = Unit
+Held (party p) = Unit
+Held (fixedHour hour f) = Unit
+Held (reading r) = WeightsHeld (r .over)
+Held (price hour p) = Unit
+Held (refixedHour hour f) = Unit
+Held (end count) = count < 256 ^ 4
+
+abbrev pub ReadingHeld : Reading → Type 0
+ReadingHeld r = WeightsHeld (r .over)
+
 -- the GLN of one party is below that of another, both read as numbers
 abbrev pub Below : Party → Party → Type 0
 Below p q = digitsOnto 0 (p .gln) < digitsOnto 0 (q .gln)
@@ -99,7 +118,8 @@ pub record Whole (m : MonthFile) : Type 0 where
   pub prices : Every PriceRight (m .prices)
   pub readings : Every (ReadingRight (H m) (P m)) (m .readings)
 
--- and "At most 65,536 bytes."
+-- and each weight has room in its bytes, and "At most 65,536 bytes."
 pub record WellFormed (m : MonthFile) : Type 0 where
   pub whole : Whole m
+  pub weights : Every ReadingHeld (m .readings)
   pub not-too-long : length (fileOf m) ≤ longestFile

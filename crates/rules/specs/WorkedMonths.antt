@@ -1,6 +1,6 @@
 -- Whole month files and what the rules give for each, from the file's bytes to the printed text: input S1 of 01 with its five lines, and the case D3 as a
--- month, both with the reviewer's report; a month of parts of an øre (W2); a small month whose figures can be followed by hand; and each refusal 1 to 15 and 17
--- once, two faults at a time where an order shows. Proved in proofs/WorkedMonths, by computing the definitions.
+-- month, both with the reviewer's report; a month of parts of an øre (W2); a small month whose figures can be followed by hand, also with a reading over several
+-- months (W3); and each refusal 1 to 15, 17 and 18 once, two faults at a time where an order shows. Proved in proofs/WorkedMonths, by computing the definitions.
 use mathlib.Core.List.{List, [], _∷_, _++_}
 use mathlib.Core.Path.{_≡_}
 use Prim.Native.Nat.{ℕ}
@@ -10,7 +10,7 @@ use lib.ListN.{take}
 use Rattle.rules.specs.Flows.{Flows}
 use Rattle.rules.specs.HoursReport.{hoursReport}
 use Rattle.rules.specs.Limits.{missing, measured, estimated}
-use Rattle.rules.specs.Record.{Record, heading, party, fixedHour, reading, price, refixedHour, end, recordBytes}
+use Rattle.rules.specs.Record.{thisMonth, manyMonths, Record, heading, party, fixedHour, reading, price, refixedHour, end, recordBytes}
 use Rattle.rules.specs.Setting.{final, provisional}
 use Rattle.rules.specs.Statement.{statement}
 use Rattle.rules.specs.Words.{ascii}
@@ -28,7 +28,11 @@ unfoldable pub partyOf : String → ℕ → Record
 partyOf gln share = party (record { gln = ascii gln; share = share })
 
 unfoldable pub readingOf : ℕ → ℕ → ℕ → ℕ → Record
-readingOf who a b e = reading (record { party = who; a = a; b = b; e = e })
+readingOf who a b e = reading (record { party = who; a = a; b = b; e = e; over = thisMonth })
+
+-- W3: one over several months, with the weight before this month and the weight of the whole reading
+unfoldable pub longReadingOf : ℕ → ℕ → ℕ → ℕ → ℕ → ℕ → Record
+longReadingOf who a b e before whole = reading (record { party = who; a = a; b = b; e = e; over = manyMonths before whole })
 
 unfoldable pub headingOf : ℕ → ℕ → ℕ → ℕ → ℕ → ℕ → Record
 headingOf area year month hours parties carrier =
@@ -136,6 +140,10 @@ unrefixed share0 share1 records =
 unfoldable pub closing : List Record → List ℕ
 closing records = unrefixed 1 1 records
 
+-- the same where hour 0 weighs nothing
+unfoldable pub emptyFirst : List Record → List ℕ
+emptyFirst records = fileOf (begin 1 1 ++ fixedHours (supply measured (pos 0)) (supply measured (pos 3)) ++ prices ++ records)
+
 -- the first records given, and nothing more
 unfoldable pub opening : List Record → List ℕ
 opening records = fileOf records
@@ -185,7 +193,7 @@ pub record WorkedMonths : Type 0 where
   pub refused-1-no-end : statement final (closing (readingOf 1 0 2 4 ∷ [])) ≡ ascii "refused 1 at 8\n"
   pub refused-1-cut : statement final (take 15 (opening (begin 1 1))) ≡ ascii "refused 1 at 1\n"
   pub refused-1-after-the-end : statement final (closing (end 7 ∷ end 7 ∷ [])) ≡ ascii "refused 1 at 8\n"
-  pub refused-2 : statement final (closing [] ++ (8 ∷ [])) ≡ ascii "refused 2 at 7\n"
+  pub refused-2 : statement final (closing [] ++ (255 ∷ [])) ≡ ascii "refused 2 at 7\n"
   -- the only byte is 03: cut short (1) before out of order (3)
   pub cut-before-order : statement final (3 ∷ []) ≡ ascii "refused 1 at 0\n"
   pub refused-3-kind : statement final (closing (partyOf "0000000000031" 1 ∷ [])) ≡ ascii "refused 3 at 7\n"
@@ -227,6 +235,28 @@ pub record WorkedMonths : Type 0 where
   pub refused-13 :
       statement final (small (supply measured (pos 0)) (supply measured (pos 0)) (supply measured (pos 2)) (supply measured (pos 2)) 1 1 4)
       ≡ ascii "refused 13 at 0\n"
+  -- W3: of curve numbers 500,000 and 1,500,000 behind 1,000,000 of 5,000,000, 7 Wh grow from 1 (1.4) to 2 (2.1) to 4 (4.2): 1 and 2. A reading of the month
+  -- beside it adds 2 in hour 1.
+  pub over-months :
+      statement provisional (closing (longReadingOf 1 0 2 7 1000000 5000000 ∷ readingOf 1 1 2 2 ∷ end 9 ∷ []))
+      ≡ ascii
+      "area 001 2020-01 hours 2 parties 2 estimated 0 provisional\n0000000000017 2 0 -1 -3 -2\n0000000000024 2 5 0 3 2\ntotal 4 5 -1 0 0\n"
+  -- W3: before and own weight are just the whole, and the last Wh comes out; one more is 18, also with E 0, at the reading, of 04 and 08 together
+  pub just-the-whole :
+      statement provisional (closing (longReadingOf 1 0 2 3 3000000 5000000 ∷ end 8 ∷ []))
+      ≡ ascii
+      "area 001 2020-01 hours 2 parties 2 estimated 0 provisional\n0000000000017 2 0 2 0 1\n0000000000024 2 2 0 0 -1\ntotal 4 2 2 0 0\n"
+  pub refused-18 :
+      statement provisional (closing (readingOf 1 0 2 1 ∷ longReadingOf 1 0 2 0 3000001 5000000 ∷ end 9 ∷ [])) ≡ ascii "refused 18 at 1\n"
+  -- by the true sum, which 64 bits do not hold; and by the whole alone
+  pub refused-18-true-sum : statement provisional (closing (longReadingOf 1 0 2 1 18446744073709551615 5000000 ∷ end 8 ∷ [])) ≡ ascii "refused 18 at 0\n"
+  pub refused-18-whole : statement provisional (closing (longReadingOf 1 0 2 1 0 8784000000001 ∷ end 8 ∷ [])) ≡ ascii "refused 18 at 0\n"
+  -- W3: "tested before 13 of the same reading"; "Zero whole weight with positive E is 13"; of an earlier reading it comes before the 18 of a later one
+  pub exceeded-before-nothing : statement provisional (closing (longReadingOf 1 0 2 1 0 0 ∷ end 8 ∷ [])) ≡ ascii "refused 18 at 0\n"
+  pub nothing-of-the-earlier :
+      statement provisional (emptyFirst (longReadingOf 1 0 1 4 0 0 ∷ longReadingOf 1 0 2 4 0 0 ∷ end 9 ∷ [])) ≡ ascii "refused 13 at 0\n"
+  -- W3: the fields of an 08 are judged as those of a 04
+  pub range-of-the-long : statement final (closing (longReadingOf 2 2 1 1000000001 0 0 ∷ [])) ≡ ascii "refused 4 at 7\n"
   pub refused-14 :
       statement provisional (closing (readingOf 1 0 1 1000000000 ∷ readingOf 0 0 1 1000000000 ∷ readingOf 1 0 1 1 ∷ end 10 ∷ []))
       ≡ ascii "refused 14 at 0\n"

@@ -6,13 +6,15 @@ use Prim.Native.Nat.{ℕ}
 use lib.IntN.{ℤ, pos, negsuc}
 use lib.ListN.{replicate}
 use Rattle.rules.specs.PlainRecord.{plainVerdict}
-use Rattle.rules.specs.Record.{readingKind, priceKind, endKind, fixedHour, price, end, bodyLength, recordBytes, readAlone, writeVerdict, written}
+use Rattle.rules.specs.Plan.{LongReading, planned, planChecks}
+use Rattle.rules.specs.Record.{readingKind, priceKind, endKind, longReadingKind, manyMonths, Reading, fixedHour, price, end, bodyLength, recordBytes, readAlone}
+use Rattle.rules.specs.Record.{writeVerdict, written}
 use Rattle.rules.specs.Refusals.{fileFault, unknownKind, outOfRange, glnFault, wOutOfRange, missingHour, residualNegative, residualTooLarge}
-use Rattle.rules.specs.Refusals.{curveTooLarge, spanFault, energyTooLarge, periodisedTooLarge, wrongLength, accepted, refused, given}
+use Rattle.rules.specs.Refusals.{curveTooLarge, spanFault, energyTooLarge, nothingToFollow, periodisedTooLarge, wrongLength, accepted, refused, given}
 use Rattle.rules.specs.Refusals.{refusal, first}
 use Rattle.rules.specs.Services.{residualChecks, residualFigures, curveChecks, distributionChecks, periodisationChecks}
 use Rattle.rules.specs.Services.{reconciliationChecks, reconciliationLoss, reconciliationDifferences, reconciliationAmounts, invoiceChecks, invoiceFigures}
-use Rattle.rules.specs.WorkedMonths.{supply, partyOf, readingOf}
+use Rattle.rules.specs.WorkedMonths.{supply, partyOf, readingOf, longReadingOf}
 use Rattle.rules.specs.Words.{figures}
 
 -- nothing in two hours
@@ -21,6 +23,16 @@ none = 0 ∷ 0 ∷ []
 
 unfoldable pub still : List ℤ
 still = pos 0 ∷ pos 0 ∷ []
+
+-- W3: a meter read over months, and a part of its reading
+unfoldable pub monthsOf : ℕ → ℕ → ℕ → List ℕ → List ℕ → List ℕ → LongReading
+monthsOf e a b parties hours curves = record { e = e; a = a; b = b; parties = parties; hours = hours; curves = curves }
+
+unfoldable pub meter : ℕ → ℕ → ℕ → LongReading
+meter e a b = monthsOf e a b (5 ∷ 0 ∷ 63 ∷ []) (2 ∷ 1 ∷ 3 ∷ []) (4 ∷ 1 ∷ 2 ∷ 1 ∷ 1 ∷ 9 ∷ [])
+
+unfoldable pub planPart : ℕ → ℕ → ℕ → ℕ → ℕ → ℕ → Reading
+planPart who a b e before whole = record { party = who; a = a; b = b; e = e; over = manyMonths before whole }
 
 pub record WorkedServices : Type 0 where
   -- "H 745, P 64 .. accepted; one more refused (4, 4 ..)"
@@ -80,18 +92,23 @@ pub record WorkedServices : Type 0 where
   pub invoice-one : first (invoiceChecks (pos 1 ∷ []) 1) ≡ refused outOfRange 0
   pub invoice-true-sum : first (invoiceChecks (pos 4611686018427387904 ∷ pos 4611686018427387904 ∷ pos 4611686018427387904 ∷ pos 4611686018427387904 ∷ []) 4) ≡ refused outOfRange 0
   pub invoice-lent : first (invoiceChecks [] 1) ≡ refused wrongLength 0
-  -- "The body lengths, by kind, are these": 01 heading, 02 party, 03 fixed hour, 04 reading, 05 price, 06 refixed hour, 07 end; 0 for an unknown kind
+  -- "The body lengths, by kind, are these": 01 heading, 02 party, 03 fixed hour, 04 reading, 05 price, 06 refixed hour, 07 end, W3: 08 reading over months; 0 for an
+  -- unknown kind
   pub body-lengths :
-      figures 9 bodyLength ≡ 0 ∷ 9 ∷ 21 ∷ 35 ∷ 9 ∷ 6 ∷ 35 ∷ 4 ∷ 0 ∷ []
+      figures 10 bodyLength ≡ 0 ∷ 9 ∷ 21 ∷ 35 ∷ 9 ∷ 6 ∷ 35 ∷ 4 ∷ 25 ∷ 0 ∷ []
   -- one record alone: an empty part is 1; 2 before 1; bytes after it are not looked at; 744 and 745, 63 and 64
   pub alone-empty : readAlone [] ≡ refusal fileFault 0
-  pub alone-unknown : readAlone (8 ∷ []) ≡ refusal unknownKind 0
+  pub alone-unknown : readAlone (255 ∷ []) ≡ refusal unknownKind 0
   pub alone-cut : readAlone (7 ∷ 0 ∷ 0 ∷ 1 ∷ []) ≡ refusal fileFault 0
   pub alone-after : readAlone (7 ∷ 0 ∷ 0 ∷ 1 ∷ 0 ∷ 255 ∷ []) ≡ given (end 256)
   pub alone-signed : readAlone (recordBytes (fixedHour 744 (supply 1 (negsuc 7999999999)))) ≡ given (fixedHour 744 (supply 1 (negsuc 7999999999)))
   pub alone-hour : readAlone (recordBytes (price 745 (pos 0))) ≡ refusal outOfRange 0
   pub alone-party : readAlone (recordBytes (readingOf 64 0 745 0)) ≡ refusal outOfRange 0
   pub alone-span : readAlone (recordBytes (readingOf 63 0 746 0)) ≡ refusal spanFault 0
+  -- W3: an 08 is judged as a 04, and any weights pass
+  pub alone-long-span : readAlone (recordBytes (longReadingOf 63 0 746 0 0 0)) ≡ refusal spanFault 0
+  pub alone-any-weights :
+      readAlone (recordBytes (longReadingOf 63 744 745 1000000000 18446744073709551615 256)) ≡ given (longReadingOf 63 744 745 1000000000 18446744073709551615 256)
   -- the writer: 4, 5, 11, 12 and then 16; a longer part keeps what stands behind the record
   pub write-share-before-gln : writeVerdict (partyOf "123" 4000000001) 0 ≡ refused outOfRange 0
   pub write-gln : writeVerdict (partyOf "123" 1) 0 ≡ refused glnFault 0
@@ -102,8 +119,10 @@ pub record WorkedServices : Type 0 where
   pub write-short : writeVerdict (end 1) 4 ≡ refused wrongLength 0
   pub write-long : writeVerdict (end 1) 7 ≡ accepted
   pub write-nothing-further-on : written (end 1) (9 ∷ 9 ∷ 9 ∷ 9 ∷ 9 ∷ 8 ∷ 7 ∷ []) ≡ 7 ∷ 0 ∷ 0 ∷ 0 ∷ 1 ∷ 8 ∷ 7 ∷ []
+  pub write-any-weights : writeVerdict (longReadingOf 0 0 1 1 18446744073709551615 0) 26 ≡ accepted
+  pub write-long-short : writeVerdict (longReadingOf 0 0 1 1 18446744073709551615 0) 25 ≡ refused wrongLength 0
   -- the writer on plain numbers: 2 before all; another length; a or b beyond two bytes, and E beyond four, by their own rules; below 0 before any of them; a count beyond four bytes
-  pub plain-unknown : plainVerdict 8 [] [] 0 ≡ refused unknownKind 0
+  pub plain-unknown : plainVerdict 255 [] [] 0 ≡ refused unknownKind 0
   pub plain-too-many : plainVerdict endKind (pos 1 ∷ pos 1 ∷ []) [] 5 ≡ refused outOfRange 0
   pub plain-too-few : plainVerdict readingKind (pos 0 ∷ pos 0 ∷ pos 1 ∷ []) [] 10 ≡ refused outOfRange 0
   pub plain-span : plainVerdict readingKind (pos 0 ∷ pos 65536 ∷ pos 65537 ∷ pos 0 ∷ []) [] 10 ≡ refused spanFault 0
@@ -113,3 +132,28 @@ pub record WorkedServices : Type 0 where
   pub plain-negative-price : plainVerdict priceKind (pos 0 ∷ negsuc 0 ∷ []) [] 7 ≡ accepted
   pub plain-count : plainVerdict endKind (pos 4294967295 ∷ []) [] 5 ≡ accepted
   pub plain-count-above : plainVerdict endKind (pos 4294967296 ∷ []) [] 5 ≡ refused outOfRange 0
+  pub plain-weights : plainVerdict longReadingKind (pos 0 ∷ pos 0 ∷ pos 1 ∷ pos 0 ∷ pos 9223372036854775807 ∷ pos 0 ∷ []) [] 26 ≡ accepted
+  pub plain-weight-above : plainVerdict longReadingKind (pos 0 ∷ pos 0 ∷ pos 1 ∷ pos 0 ∷ pos 0 ∷ pos 18446744073709551616 ∷ []) [] 26 ≡ refused outOfRange 0
+  pub plain-weight-below : plainVerdict longReadingKind (pos 0 ∷ pos 0 ∷ pos 1 ∷ pos 0 ∷ pos 0 ∷ negsuc 0 ∷ []) [] 26 ≡ refused outOfRange 0
+  -- W3, the planner: 7 Wh from hour 1 of a month of 2 hours, over one of 1 hour, to before hour 2 of one of 3: weights 1, 2 and 1 + 1
+  pub plan-lines :
+      planned (meter 7 1 2)
+      ≡ planPart 5 1 2 7 0 5 ∷ planPart 0 0 1 7 1 5 ∷ planPart 63 0 2 7 3 5 ∷ []
+  pub plan-passes : first (planChecks (meter 7 1 2)) ≡ accepted
+  -- 4: a party above 63, or too few of them; a month of no hours; hours that are not those of the curves; no month
+  pub plan-party : first (planChecks (monthsOf 7 0 1 (64 ∷ []) (1 ∷ []) (1 ∷ []))) ≡ refused outOfRange 0
+  pub plan-parties : first (planChecks (monthsOf 7 0 1 [] (1 ∷ []) (1 ∷ []))) ≡ refused outOfRange 0
+  pub plan-no-hours : first (planChecks (monthsOf 7 0 1 (0 ∷ 0 ∷ []) (1 ∷ 0 ∷ []) (1 ∷ []))) ≡ refused outOfRange 0
+  pub plan-746-hours : first (planChecks (monthsOf 7 0 1 (0 ∷ []) (746 ∷ []) (replicate 746 1))) ≡ refused outOfRange 0
+  pub plan-curves : first (planChecks (monthsOf 7 0 1 (0 ∷ []) (2 ∷ []) (1 ∷ []))) ≡ refused outOfRange 0
+  pub plan-no-month : first (planChecks (monthsOf 7 0 0 [] [] [])) ≡ refused outOfRange 0
+  pub plan-14-months : first (planChecks (monthsOf 7 0 1 (replicate 14 0) (replicate 14 1) (replicate 14 1))) ≡ refused outOfRange 0
+  -- 11: an empty part of the first month, of the last, and of the only one; b above the last month's hours
+  pub plan-empty-first : first (planChecks (meter 1000000001 2 2)) ≡ refused spanFault 0
+  pub plan-empty-last : first (planChecks (meter 7 1 0)) ≡ refused spanFault 0
+  pub plan-empty-only : first (planChecks (monthsOf 7 1 1 (0 ∷ []) (2 ∷ []) (1 ∷ 1 ∷ []))) ≡ refused spanFault 0
+  pub plan-beyond : first (planChecks (meter 7 1 4)) ≡ refused spanFault 0
+  -- then 12, 10 (also outside the reading's hours), 13
+  pub plan-energy : first (planChecks (monthsOf 1000000001 0 1 (0 ∷ []) (1 ∷ []) (1000000001 ∷ []))) ≡ refused energyTooLarge 0
+  pub plan-curve : first (planChecks (monthsOf 7 0 1 (0 ∷ []) (2 ∷ []) (0 ∷ 1000000001 ∷ []))) ≡ refused curveTooLarge 0
+  pub plan-nothing : first (planChecks (monthsOf 7 0 1 (0 ∷ []) (2 ∷ []) (0 ∷ 1 ∷ []))) ≡ refused nothingToFollow 0
