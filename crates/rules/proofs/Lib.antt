@@ -13,6 +13,7 @@ pub mod Whole
 pub mod Month
 pub mod Setting
 pub mod Readings
+pub mod Plan
 pub mod Lines
 pub mod HoursReport
 mod Computed

@@ -75,6 +75,11 @@ pub part-is-all : (e whole : ℕ) → (e ≡ 0) ⊎ (0 < whole) → partOfE e 0 
 unfolding partOfE
 part-is-all e whole c = omega (arith, ap (λ (x : ℕ). sumSoFar e x whole) (zero-add whole), all-so-far e whole c, nothing-so-far e whole)
 
+-- and nothing of it where they weigh nothing
+pub no-part : (e whole : ℕ) → partOfE e 0 0 whole ≡ 0
+unfolding partOfE
+no-part e whole = omega (arith, nothing-so-far e whole)
+
 -- THE FIGURES ADD UP TO E where nothing lies before and the weights are the whole
 pub figures-add-up-to-E : (e hours : ℕ) (weight : ℕ → ℕ) → (e ≡ 0) ⊎ (0 < sum hours weight) → sum hours (periodisedFigure e 0 (sum hours weight) weight) ≡ e
 figures-add-up-to-E e hours weight c = figures-add-up e 0 (sum hours weight) weight hours ∙ part-is-all e (sum hours weight) c

@@ -64,6 +64,13 @@ sum-split a zero f = rw (add-zero a) (omega arith)
 sum-split a (suc b) f = rw add-suc (omega (arith, sum-split a b f))
 
 -- by hour and then by party is by party and then by hour
+-- a sum does not fall as more is added
+pub sum-rises : (f : ℕ → ℕ) {k n : ℕ} → k ≤ n → sum k f ≤ sum n f
+sum-rises f {k} {n} b =
+    let e : n ≡ k + (n - k) = omega arith in
+    let s : sum n f ≡ sum (k + (n - k)) f = ap (λ (m : ℕ). sum m f) e in
+    omega (arith, sum-split k (n - k) f)
+
 pub sum-swap : (n h : ℕ) (f : ℕ → ℕ → ℕ) → sum n (λ i. sum h (λ t. f t i)) ≡ sum h (λ t. sum n (f t))
 unfolding sum
 sum-swap zero h f = sym (sum-zero h (λ t b. refl))

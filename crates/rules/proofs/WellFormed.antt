@@ -81,8 +81,7 @@ at-the-end records n rest (check-refuses some r place e) count all is = absurd (
 at-the-end records n rest (right-end d (byte ∷ bytes) e) count all is = absurd (given-not-refusal is)
 at-the-end {m = m} records n rest (right-end d [] e) count all is =
     let month : withAll nothingYet records ≡ m = cc in
-    let same : records ≡ recordsOf m = sym (records-are records all (headed (withAll nothingYet records) n d)) ∙ ap recordsOf month in
-    (
+    let same : records ≡ recordsOf m = sym (records-are records all (headed (withAll nothingYet records) n d)) ∙ ap recordsOf month in (
       month,
       ap₂ (λ (x : List Record) (y : List ℕ). bytesOfAll x ++ y) same (e ∙ append-nil (recordBytes (end n)) ∙ ap (λ (k : ℕ). recordBytes (end k)) (count ∙ ap length same)),
     )

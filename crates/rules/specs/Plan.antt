@@ -3,13 +3,16 @@
 -- hour has the figure of one long periodisation, and that the records pass in their month files is proved in proofs/Plan.
 use mathlib.Core.Bool.{cond, _&&_, _||_}
 use mathlib.Core.List.{List, [], _∷_}
-use Prim.Native.Nat.{ℕ, suc, _+_, _-_}
+use mathlib.Core.Path.{_≡_}
+use Prim.Native.Nat.{ℕ, suc, _+_, _-_, _<_}
 use lib.Dec.{eqb, leb, ltb}
 use lib.ListN.{length}
+use Rattle.rules.specs.Accepted.{NoneRefuses}
 use Rattle.rules.specs.Limits.{mostMonths, mostHours, mostParties, mostWeights, greatestEnergy, greatestCurveNumber}
-use Rattle.rules.specs.Month.{followsWhole}
-use Rattle.rules.specs.Record.{manyMonths, Reading}
-use Rattle.rules.specs.Refusals.{outOfRange, spanFault, energyTooLarge, curveTooLarge, nothingToFollow, Verdict, unless, inTurn}
+use Rattle.rules.specs.Month.{curve, followsWhole, readingChecks, readingFigure}
+use Rattle.rules.specs.Record.{manyMonths, Reading, reading, MonthFile, H, P, inFile, checks}
+use Rattle.rules.specs.Refusals.{outOfRange, spanFault, energyTooLarge, curveTooLarge, nothingToFollow, Verdict, accepted, unless, first, inTurn}
+use Rattle.rules.specs.Services.{periodisationChecks, periodisationFigures}
 use Rattle.rules.specs.Words.{sum, figures, at, within}
 
 -- what is handed in
@@ -99,3 +102,23 @@ planChecks r =
     ∷ inTurn (length (r .curves)) (weightVerdict r)
     ∷ unless (followsWhole (r .e) (plannedWhole r)) nothingToFollow 0
     ∷ []
+
+-- WHAT IS PROVED OF A PLAN (law `plan-kept`), of a reading that the planner does not refuse
+
+-- a month file that the record of month k stands in: of that month's hours and curve, with the party among its parties
+pub record InMonth (r : LongReading) (k : ℕ) (m : MonthFile) : Type 0 where
+  pub hours : H m ≡ at (r .hours) k
+  pub same-curve : (t : ℕ) → t < H m → curve m t ≡ curveOfMonth r k t
+  pub a-party : at (r .parties) k < P m
+
+pub record PlanKept (r : LongReading) : Type 0 where
+  -- "the month parts of a reading add up to E": the record's figures in all hours of each month file, over all the months
+  pub adds-up : (file : ℕ → MonthFile) → ((k : ℕ) → k < monthCount r → InMonth r k (file k))
+      → sum (monthCount r) (λ k. sum (H (file k)) (readingFigure (file k) (plannedReading r k))) ≡ r .e
+  -- "and each hour equals the figure of one long periodisation over the joined curve of at most 8,784 hours": that of the periodisation service, which takes it
+  pub each-hour : (k : ℕ) (m : MonthFile) → k < monthCount r → InMonth r k m → (h : ℕ) → h < partHours r k
+      → readingFigure m (plannedReading r k) (partFrom r k + h) ≡ at (periodisationFigures (r .e) (joinedCurve r)) (hoursBefore r k + h)
+  pub taken : first (periodisationChecks (r .e) (joinedCurve r) (length (joinedCurve r))) ≡ accepted
+  -- a planned record meets none of 4, 11, 12, 18 and 13 in its month file (READINGS A105)
+  pub passes : (k : ℕ) (m : MonthFile) → k < monthCount r → InMonth r k m → (n place : ℕ)
+      → NoneRefuses (checks (inFile m n) (reading (plannedReading r k))) × NoneRefuses (readingChecks m (plannedReading r k) place)

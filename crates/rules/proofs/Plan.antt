@@ -1,0 +1,286 @@
+-- A READING PLANNED OVER MONTHS (02, W3): in the joined curves its hours follow one another from month to month, so that what its parts weigh is what the joined
+-- curve of its hours weighs, and each month's figures are those of one long periodisation (`plan-kept`, what specs/Plan says of a plan).
+use mathlib.Core.Bool.{true, false, cond, _&&_, _||_}
+use mathlib.Core.List.{List}
+use mathlib.Core.Logic.{_⊎_, inl, inr, ⊎-elim}
+use mathlib.Core.Path.{_≡_, refl, sym, _∙_, ap, ap₂}
+use Prim.Native.Nat.{ℕ, zero, suc, _+_, _-_, _*_, _≤_, _<_}
+use native.Mathlib.Nat.{add-assoc, add-zero, zero-add}
+use native.Mathlib.Omega.{arith}
+use borrow.Author.Tests.{ltb-true, leb-true, eqb-true, lt-ltb, le-leb, le-ltb, eq-eqb, ne-eqb}
+use lib.Dec.{eqb, leb, ltb}
+use lib.ListN.{length}
+use Rattle.rules.specs.Accepted.{NoneRefuses}
+use Rattle.rules.specs.Limits.{mostMonths, mostHours, mostParties, mostWeights, greatestEnergy, greatestCurveNumber, greatestWhole}
+use Rattle.rules.specs.Month.{curve, weightOf, S, weightBefore, wholeWeight, wholeOf, energyOf, weightsFit, followsWhole, readingChecks, readingFigure}
+use Rattle.rules.specs.MonthFile.{MonthFile, H, P}
+use Rattle.rules.specs.Periodised.{sumSoFar, periodisedFigure, partOfE}
+use Rattle.rules.specs.Plan.{LongReading, monthCount, monthStart, curveOfMonth, partFrom, partTo, partHours, partWeight, plannedBefore, plannedWhole, plannedReading}
+use Rattle.rules.specs.Plan.{readingHours, hoursBefore, joinedCurve, hoursVerdict, partyVerdict, partVerdict, weightVerdict, planChecks, InMonth, PlanKept}
+use Rattle.rules.specs.Record.{thisMonth, Reading, reading, inFile, checks}
+use Rattle.rules.specs.Refusals.{accepted, unless, first, inTurn}
+use Rattle.rules.specs.Services.{checkAt, eachAt, periodisationChecks, periodisationFigures}
+use Rattle.rules.specs.Words.{sum, figures, at, within, atMost}
+use Rattle.rules.proofs.Loops.{figures-length, figures-at}
+use Rattle.rules.proofs.Periodised.{part-is-all, no-part, parts-add-up, part-of-whole}
+use Rattle.rules.proofs.Readings.{reading-adds-up}
+use Rattle.rules.proofs.Refusals.{accepted-exactly, in-turn-exactly, unless-exactly}
+use Rattle.rules.proofs.Sums.{sum-cong, sum-rises, sum-split, sum-at-most, sum-member}
+use Rattle.rules.proofs.Whole.{both-pass, one-passes, within-is}
+
+-- figures by weights that are the same
+pub figure-cong : (e before whole : ℕ) {f g : ℕ → ℕ} (k : ℕ) → ((i : ℕ) → i ≤ k → f i ≡ g i) → periodisedFigure e before whole f k ≡ periodisedFigure e before whole g k
+unfolding periodisedFigure
+figure-cong e before whole k same =
+    ap₂ (λ (x y : ℕ). sumSoFar e (before + x) whole - sumSoFar e (before + y) whole) (sum-cong (suc k) (λ i b. same i (omega arith)))
+    (sum-cong k (λ i b. same i (omega arith)))
+
+-- 13 does not apply: E is 0, or there is a weight
+pub follows-is : (e whole : ℕ) → followsWhole e whole ≡ true → (e ≡ 0) ⊎ (0 < whole)
+unfolding followsWhole
+follows-is e whole t =
+    ⊎-elim (λ (z : eqb e 0 ≡ true). inl (eqb-true e 0 z)) (λ (p : leb 1 whole ≡ true). inr (leb-true 1 whole p)) (one-passes (eqb e 0) (leb 1 whole) t)
+
+-- WHAT THE PLANNER'S CHECKS SAY
+pub record Plannable (r : LongReading) : Type 0 where
+  pub as-many-parties : length (r .parties) ≡ monthCount r
+  pub some-months : 1 ≤ monthCount r
+  pub few-months : monthCount r ≤ mostMonths
+  pub some-hours : (k : ℕ) → k < monthCount r → 1 ≤ at (r .hours) k
+  pub few-hours : (k : ℕ) → k < monthCount r → at (r .hours) k ≤ mostHours
+  pub all-curves : length (r .curves) ≡ monthStart r (monthCount r)
+  pub party : (k : ℕ) → k < monthCount r → at (r .parties) k < mostParties
+  pub some-part : (k : ℕ) → k < monthCount r → partFrom r k < partTo r k
+  pub part-inside : (k : ℕ) → k < monthCount r → partTo r k ≤ at (r .hours) k
+  pub not-too-long : readingHours r ≤ mostWeights
+  pub energy : r .e ≤ greatestEnergy
+  pub curve-fits : (t : ℕ) → t < length (r .curves) → at (r .curves) t ≤ greatestCurveNumber
+  pub follows : followsWhole (r .e) (plannedWhole r) ≡ true
+
+module _ (r : LongReading) where
+  said-hours : (k : ℕ) → hoursVerdict r k ≡ accepted → (1 ≤ at (r .hours) k) × (at (r .hours) k ≤ mostHours)
+  unfolding hoursVerdict
+  said-hours k v = within-is 1 mostHours (at (r .hours) k) (unless-exactly _ _ _ .0 v)
+
+  said-party : (k : ℕ) → partyVerdict r k ≡ accepted → at (r .parties) k < mostParties
+  unfolding partyVerdict
+  said-party k v = ltb-true (at (r .parties) k) mostParties (unless-exactly _ _ _ .0 v)
+
+  said-part : (k : ℕ) → partVerdict r k ≡ accepted → (partFrom r k < partTo r k) × (partTo r k ≤ at (r .hours) k)
+  unfolding partVerdict
+  said-part k v =
+      let both = both-pass (ltb (partFrom r k) (partTo r k)) (leb (partTo r k) (at (r .hours) k)) (unless-exactly _ _ _ .0 v) in
+      (ltb-true (partFrom r k) (partTo r k) (both .0), leb-true (partTo r k) (at (r .hours) k) (both .1))
+
+  said-weight : (t : ℕ) → weightVerdict r t ≡ accepted → at (r .curves) t ≤ greatestCurveNumber
+  unfolding weightVerdict
+  said-weight t v = leb-true (at (r .curves) t) greatestCurveNumber (unless-exactly _ _ _ .0 v)
+
+pub plannable : (r : LongReading) → first (planChecks r) ≡ accepted → Plannable r
+unfolding planChecks
+plannable r ok =
+    let none = accepted-exactly (planChecks r) .0 ok in
+    let lists = both-pass (eqb (length (r .parties)) (monthCount r)) (within 1 mostMonths (monthCount r)) (unless-exactly _ _ _ .0 (none .0)) in
+    let count = within-is 1 mostMonths (monthCount r) (lists .1) in
+    let of-hours = in-turn-exactly (monthCount r) (hoursVerdict r) .0 (none .1 .0) in
+    let of-parties = in-turn-exactly (monthCount r) (partyVerdict r) .0 (none .1 .1 .1 .0) in
+    let of-parts = in-turn-exactly (monthCount r) (partVerdict r) .0 (none .1 .1 .1 .1 .0) in
+    let of-weights = in-turn-exactly (length (r .curves)) (weightVerdict r) .0 (none .1 .1 .1 .1 .1 .1 .1 .0) in
+    record {
+      as-many-parties = eqb-true _ _ (lists .0);
+      some-months = count .0;
+      few-months = count .1;
+      some-hours = λ k b. said-hours r k (of-hours k b) .0;
+      few-hours = λ k b. said-hours r k (of-hours k b) .1;
+      all-curves = eqb-true _ _ (unless-exactly _ _ _ .0 (none .1 .1 .0));
+      party = λ k b. said-party r k (of-parties k b);
+      some-part = λ k b. said-part r k (of-parts k b) .0;
+      part-inside = λ k b. said-part r k (of-parts k b) .1;
+      not-too-long = leb-true _ _ (unless-exactly _ _ _ .0 (none .1 .1 .1 .1 .1 .0));
+      energy = leb-true _ _ (unless-exactly _ _ _ .0 (none .1 .1 .1 .1 .1 .1 .0));
+      curve-fits = λ t b. said-weight r t (of-weights t b);
+      follows = unless-exactly _ _ _ .0 (none .1 .1 .1 .1 .1 .1 .1 .1 .0);
+    }
+
+-- IN THE JOINED CURVES A READING'S HOURS FOLLOW ONE ANOTHER
+module _ (r : LongReading) (p : Plannable r) where
+  abbrev joined : ℕ → ℕ
+  joined t = at (r .curves) (r .a + t)
+
+  not-last : (k : ℕ) → suc k < monthCount r → partTo r k ≡ at (r .hours) k
+  unfolding partTo
+  not-last k b = rw (ne-eqb (suc k) (monthCount r) (λ e. omega arith))
+
+  hours-are : (k : ℕ) → partHours r k ≡ partTo r k - partFrom r k
+  unfolding partHours
+  hours-are k = refl
+
+  -- each part begins where the part before it has ended
+  pub part-follows : (k : ℕ) → k < monthCount r → monthStart r k + partFrom r k ≡ r .a + hoursBefore r k
+  unfolding monthStart hoursBefore partFrom sum
+  part-follows zero b = omega arith
+  part-follows (suc k) b =
+      let none : cond (eqb (suc k) 0) (r .a) 0 ≡ 0 = rw (ne-eqb (suc k) 0 (λ e. omega arith)) in
+      let ends : partTo r k ≡ at (r .hours) k = not-last k b in
+      omega (arith, part-follows k (omega arith), none, hours-are k, p .some-part k (omega arith))
+
+  -- an hour of a part is the joined curve's hour behind all that came before
+  pub hour-follows : (k h : ℕ) → k < monthCount r → curveOfMonth r k (partFrom r k + h) ≡ joined (hoursBefore r k + h)
+  unfolding curveOfMonth
+  hour-follows k h b = ap (at (r .curves)) (omega (arith, part-follows k b))
+
+  -- WHAT LIES BEFORE A PART weighs what the joined curve weighs before it
+  pub before-is : (k : ℕ) → k ≤ monthCount r → plannedBefore r k ≡ sum (hoursBefore r k) joined
+  unfolding plannedBefore hoursBefore partWeight sum
+  before-is zero b = refl
+  before-is (suc k) b =
+      let own : partWeight r k ≡ sum (partHours r k) (λ h. joined (hoursBefore r k + h)) = sum-cong (partHours r k) (λ h c. hour-follows k h (omega arith)) in
+      omega (arith, before-is k (omega arith), own, sum-split (hoursBefore r k) (partHours r k) joined)
+
+  pub whole-is : plannedWhole r ≡ sum (readingHours r) joined
+  unfolding plannedWhole readingHours plannedBefore hoursBefore
+  whole-is = before-is (monthCount r) (omega arith)
+
+  -- the reading ends within the curves that are handed in
+  pub within-curves : r .a + readingHours r ≤ length (r .curves)
+  unfolding readingHours hoursBefore monthStart sum
+  within-curves =
+      let last : ℕ = monthCount r - 1 in
+      let all : monthCount r ≡ suc last = omega (arith, p .some-months) in
+      let b : last < monthCount r = omega (arith, p .some-months) in
+      let ends : readingHours r ≡ hoursBefore r last + partHours r last = ap (λ (n : ℕ). sum n (partHours r)) all in
+      let starts : monthStart r (monthCount r) ≡ monthStart r last + at (r .hours) last = ap (λ (n : ℕ). sum n (at (r .hours))) all in
+      omega (arith, part-follows last b, hours-are last, p .some-part last b, p .part-inside last b, p .all-curves)
+
+  pub weight-fits : (t : ℕ) → t < readingHours r → joined t ≤ greatestCurveNumber
+  weight-fits t b = p .curve-fits (r .a + t) (omega (arith, within-curves))
+
+  pub whole-fits : plannedWhole r ≤ greatestWhole
+  whole-fits = omega (arith, whole-is, sum-at-most (readingHours r) joined greatestCurveNumber weight-fits, p .not-too-long)
+
+  -- the part of a month ends within the whole reading
+  part-ends : (k : ℕ) → k < monthCount r → hoursBefore r k + partHours r k ≤ readingHours r
+  unfolding hoursBefore readingHours sum
+  part-ends k b = sum-rises (partHours r) {k = suc k} {n = monthCount r} (omega arith)
+
+  part-weighs : (k : ℕ) → k < monthCount r → plannedBefore r k + partWeight r k ≤ plannedWhole r
+  unfolding plannedBefore plannedWhole sum
+  part-weighs k b = sum-rises (partWeight r) {k = suc k} {n = monthCount r} (omega arith)
+
+  -- THE JOINED CURVE, as the periodisation service takes it
+  curve-at : (t : ℕ) → t < readingHours r → at (joinedCurve r) t ≡ joined t
+  unfolding joinedCurve at
+  curve-at t b = figures-at (readingHours r) _ t 0 b
+
+  curve-length : length (joinedCurve r) ≡ readingHours r
+  unfolding joinedCurve
+  curve-length = figures-length (readingHours r) _
+
+  curve-weighs : sum (length (joinedCurve r)) (at (joinedCurve r)) ≡ plannedWhole r
+  curve-weighs = ap (λ (n : ℕ). sum n (at (joinedCurve r))) curve-length ∙ sum-cong (readingHours r) curve-at ∙ sym whole-is
+
+  some-reading-hours : 1 ≤ readingHours r
+  unfolding readingHours
+  some-reading-hours = omega (arith, p .some-months, p .some-part 0 (p .some-months), hours-are 0, sum-member (monthCount r) (partHours r) {i = 0} (p .some-months))
+
+  long-taken : first (periodisationChecks (r .e) (joinedCurve r) (length (joinedCurve r))) ≡ accepted
+  unfolding periodisationChecks eachAt checkAt within atMost followsWhole
+  long-taken =
+      accepted-exactly (periodisationChecks (r .e) (joinedCurve r) (length (joinedCurve r))) .1 (
+        unless-exactly _ _ _ .1 (eq-eqb (length (joinedCurve r)) (length (joinedCurve r)) refl),
+        (
+          unless-exactly _ _ _ .1 (rw (curve-length, le-leb 1 (readingHours r) some-reading-hours, le-leb (readingHours r) mostWeights (p .not-too-long))),
+          (
+            unless-exactly _ _ _ .1 (le-leb (r .e) greatestEnergy (p .energy)),
+            (
+              in-turn-exactly (length (joinedCurve r)) _ .1 (λ t b. unless-exactly _ _ _ .1 (le-leb _ _ (each-fits t (omega (arith, curve-length))))),
+              (unless-exactly _ _ _ .1 (rw curve-weighs (p .follows)), tt),
+            ),
+          ),
+        ),
+      )
+    where
+      each-fits : (t : ℕ) → t < readingHours r → at (joinedCurve r) t ≤ greatestCurveNumber
+      each-fits t b = rw (curve-at t b) (weight-fits t b)
+
+  long-figure : (t : ℕ) → t < readingHours r → at (periodisationFigures (r .e) (joinedCurve r)) t ≡ periodisedFigure (r .e) 0 (plannedWhole r) joined t
+  unfolding periodisationFigures at
+  long-figure t b =
+      figures-at (length (joinedCurve r)) _ t 0 (omega (arith, curve-length))
+      ∙ ap (λ (whole : ℕ). periodisedFigure (r .e) 0 whole (at (joinedCurve r)) t) curve-weighs
+      ∙ figure-cong (r .e) 0 (plannedWhole r) t (λ i c. curve-at i (omega arith))
+
+  -- A MONTH FILE that a record stands in
+  module _ (k : ℕ) (m : MonthFile) (b : k < monthCount r) (here : InMonth r k m) where
+    own-weight : (h : ℕ) → h < partHours r k → weightOf m (plannedReading r k) h ≡ curveOfMonth r k (partFrom r k + h)
+    unfolding weightOf plannedReading
+    own-weight h c = here .same-curve (partFrom r k + h) (omega (arith, hours-are k, p .part-inside k b, here .hours))
+
+    own-is : S m (plannedReading r k) ≡ partWeight r k
+    unfolding S plannedReading partWeight partHours
+    own-is = sum-cong (partHours r k) own-weight
+
+    month-hour : (h : ℕ) → h < partHours r k → readingFigure m (plannedReading r k) (partFrom r k + h) ≡ at (periodisationFigures (r .e) (joinedCurve r)) (hoursBefore r k + h)
+    unfolding readingFigure plannedReading weightBefore wholeOf wholeWeight
+    month-hour h c =
+        let back : partFrom r k + h - partFrom r k ≡ h = omega arith in
+        let before : plannedBefore r k ≡ 0 + sum (hoursBefore r k) joined = before-is k (omega arith) ∙ sym (zero-add _) in
+        rw (le-leb (partFrom r k) (partFrom r k + h) (omega arith), lt-ltb (partFrom r k + h) (partTo r k) (omega (arith, hours-are k)), back)
+        (figure-cong (r .e) (plannedBefore r k) (plannedWhole r) h (λ i d. own-weight i (omega arith) ∙ hour-follows k i b)
+        ∙ ap (λ (x : ℕ). periodisedFigure (r .e) x (plannedWhole r) (λ i. joined (hoursBefore r k + i)) h) before
+        ∙ part-of-whole (r .e) 0 (plannedWhole r) joined (hoursBefore r k) h
+        ∙ sym (long-figure (hoursBefore r k + h) (omega (arith, part-ends k b))))
+
+    month-part : sum (H m) (readingFigure m (plannedReading r k)) ≡ partOfE (r .e) (plannedBefore r k) (partWeight r k) (plannedWhole r)
+    unfolding plannedReading energyOf wholeOf wholeWeight
+    month-part =
+        reading-adds-up m (plannedReading r k) (p .some-part k b) (omega (arith, p .part-inside k b, here .hours)) (follows-is (r .e) (plannedWhole r) (p .follows))
+        ∙ ap (λ (own : ℕ). partOfE (r .e) (plannedBefore r k) own (plannedWhole r)) own-is
+
+    month-passes : (n place : ℕ) → NoneRefuses (checks (inFile m n) (reading (plannedReading r k))) × NoneRefuses (readingChecks m (plannedReading r k) place)
+    unfolding checks readingChecks plannedReading weightsFit wholeOf wholeWeight weightBefore
+    month-passes n place =
+        let inside : leb (partTo r k) (H m) ≡ true = le-leb (partTo r k) (H m) (omega (arith, p .part-inside k b, here .hours)) in
+        let fits : leb (plannedBefore r k + S m (plannedReading r k)) (plannedWhole r) ≡ true =
+        le-leb (plannedBefore r k + S m (plannedReading r k)) (plannedWhole r) (omega (arith, own-is, part-weighs k b)) in (
+          (
+            unless-exactly _ _ _ .1 (lt-ltb (at (r .parties) k) (P m) (here .a-party)),
+            (
+              unless-exactly _ _ _ .1 (rw (lt-ltb (partFrom r k) (partTo r k) (p .some-part k b), inside)),
+              (unless-exactly _ _ _ .1 (le-leb (r .e) greatestEnergy (p .energy)), tt),
+            ),
+          ),
+          (
+            unless-exactly _ _ _ .1 (rw (fits, le-leb (plannedWhole r) greatestWhole whole-fits)),
+            (unless-exactly _ _ _ .1 (p .follows), tt),
+          ),
+        )
+
+  -- THE PARTS OF THE MONTHS ADD UP: after k months as much of E has come as the weight before asks for
+  months-so-far : (file : ℕ → MonthFile) → ((k : ℕ) → k < monthCount r → InMonth r k (file k)) → (k : ℕ) → k ≤ monthCount r
+      → sum k (λ j. sum (H (file j)) (readingFigure (file j) (plannedReading r j))) ≡ partOfE (r .e) 0 (plannedBefore r k) (plannedWhole r)
+  unfolding sum plannedBefore
+  months-so-far file here zero b = sym (no-part (r .e) (plannedWhole r))
+  months-so-far file here (suc k) b =
+      ap₂ (λ (x y : ℕ). x + y) (months-so-far file here k (omega arith)) (month-part k (file k) (omega arith) (here k (omega arith)))
+      ∙ ap (λ (x : ℕ). partOfE (r .e) 0 (plannedBefore r k) (plannedWhole r) + partOfE (r .e) x (partWeight r k) (plannedWhole r)) (sym (zero-add _))
+      ∙ parts-add-up (r .e) 0 (plannedBefore r k) (partWeight r k) (plannedWhole r)
+
+  all-months : (file : ℕ → MonthFile) → ((k : ℕ) → k < monthCount r → InMonth r k (file k))
+      → sum (monthCount r) (λ k. sum (H (file k)) (readingFigure (file k) (plannedReading r k))) ≡ r .e
+  unfolding plannedBefore plannedWhole
+  all-months file here = months-so-far file here (monthCount r) (omega arith) ∙ part-is-all (r .e) (plannedWhole r) (follows-is (r .e) (plannedWhole r) (p .follows))
+
+-- WHAT W3 ASKS OF A PLAN, of every reading that the planner does not refuse
+pub plan-kept : (r : LongReading) → first (planChecks r) ≡ accepted → PlanKept r
+plan-kept r ok =
+    let p : Plannable r = plannable r ok in
+    record { adds-up = all-months r p; each-hour = λ k m b here. month-hour r p k m b here; taken = long-taken r p; passes = λ k m b here. month-passes r p k m b here }
+
+-- A READING IN THIS MONTH NEVER MEETS 18, once its curve has passed 10
+pub this-month-fits : (m : MonthFile) (r : Reading) → r .b ≤ H m → H m ≤ mostHours → ((t : ℕ) → t < H m → curve m t ≤ greatestCurveNumber)
+    → weightsFit (weightBefore thisMonth) (S m r) (wholeWeight thisMonth (S m r)) ≡ true
+unfolding weightsFit weightBefore wholeWeight S weightOf
+this-month-fits m r ends few fits =
+    let light : S m r ≤ (r .b - r .a) * greatestCurveNumber = sum-at-most (r .b - r .a) (weightOf m r) greatestCurveNumber (λ k b. fits (r .a + k) (omega arith)) in
+    rw (le-leb (0 + S m r) (S m r) (omega arith), le-leb (S m r) greatestWhole (omega arith))
