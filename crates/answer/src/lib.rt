@@ -21,6 +21,7 @@ pub enum Refusal {
     WrongCount,
     WrongLength,
     NotRefixed,
+    WholeExceeded,
 }
 
 // The answer of a call that gives nothing but what it writes.
@@ -51,6 +52,7 @@ pub fn number(r: Refusal) -> u8
         Refusal::WrongCount => 15,
         Refusal::WrongLength => 16,
         Refusal::NotRefixed => 17,
+        Refusal::WholeExceeded => 18,
     }
 }
 

@@ -48,6 +48,12 @@ pub const MILLIONTHS_IN_ORE: u64 = 1_000_000;
 // "The service takes E and the weights alone, 1 to 8,784 hours of them." (Periodised consumption)
 pub const MOST_WEIGHTS: usize = 8_784;
 
+// W3: "the whole is over 8,784,000,000,000"
+pub const GREATEST_WHOLE: u64 = 8_784_000_000_000;
+
+// W3: "A yearly reading crosses up to thirteen month files."
+pub const MOST_MONTHS: usize = 13;
+
 // "distributed outside -1..2,000,000,001" (Refusal numbers, reconciliation of one hour)
 pub const GREATEST_DISTRIBUTED_WH: i64 = 2_000_000_001;
 

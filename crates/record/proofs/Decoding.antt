@@ -10,7 +10,8 @@ use lib.ListN.{length, getD, take, drop, length-drop}
 use lib.Seq.{drop-drop, length-take-le}
 use Rattle.record.specs.Record.{Whole, recordAs, flowsAt, glnBytes}
 use Rattle.rules.specs.Limits.{glnDigits}
-use Rattle.rules.specs.Record.{headingKind, partyKind, fixedHourKind, readingKind, priceKind, refixedHourKind, endKind, hourWidths, layouts, widthsIn, fieldWidths}
+use Rattle.rules.specs.Record.{headingKind, partyKind, fixedHourKind, readingKind, priceKind, refixedHourKind, endKind, longReadingKind, hourWidths, layouts, widthsIn}
+use Rattle.rules.specs.Record.{fieldWidths, thisMonth, manyMonths}
 use Rattle.rules.specs.Record.{heading, party, fixedHour, reading, price, refixedHour, end, bodyLength, numberOnto, signed, cutInto, field, numberAt, signedAt}
 use Rattle.rules.specs.Record.{headingFrom, flowsFrom, readingFrom, recordFrom, kindAt, recordAt}
 use Rattle.rules.specs.Words.{at}
@@ -58,9 +59,14 @@ pub fixed-is : (s : List ℕ) → fixedHour (num 2 1 s) (flowsAt s) ≡ recordAs
 unfolding recordAs recordFrom cutInto fieldWidths layouts widthsIn field numberAt flowsAt
 fixed-is s = refl
 
-pub reading-is : (s : List ℕ) → reading (record { party = num 1 1 s; a = num 2 2 s; b = num 2 4 s; e = num 4 6 s }) ≡ recordAs readingKind s
+pub reading-is : (s : List ℕ) → reading (record { party = num 1 1 s; a = num 2 2 s; b = num 2 4 s; e = num 4 6 s; over = thisMonth }) ≡ recordAs readingKind s
 unfolding recordAs recordFrom readingFrom fieldWidths layouts widthsIn field numberAt
 reading-is s = ap (recordFrom readingKind) (cut-at (1 ∷ 2 ∷ 2 ∷ 4 ∷ []) 1 s)
+
+pub long-reading-is : (s : List ℕ)
+    → reading (record { party = num 1 1 s; a = num 2 2 s; b = num 2 4 s; e = num 4 6 s; over = manyMonths (num 8 10 s) (num 8 18 s) }) ≡ recordAs longReadingKind s
+unfolding recordAs recordFrom readingFrom fieldWidths layouts widthsIn field numberAt
+long-reading-is s = ap (recordFrom longReadingKind) (cut-at (1 ∷ 2 ∷ 2 ∷ 4 ∷ 8 ∷ 8 ∷ []) 1 s)
 
 pub price-is : (s : List ℕ) → 7 ≤ length s → price (num 2 1 s) (signed 4 (num 4 3 s)) ≡ recordAs priceKind s
 unfolding recordAs recordFrom fieldWidths layouts widthsIn field numberAt signedAt

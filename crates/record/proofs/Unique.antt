@@ -5,8 +5,10 @@ use Prim.Native.Nat.{ℕ}
 use Rattle.answer.specs.Said.{said}
 use Rattle.answer.specs.declared.Answer.{Answer}
 use Rattle.answer.proofs.Said.{said-once, named-once}
-use Rattle.record.specs.Record.{recordOf, faultOf, told}
+use Rattle.record.specs.Record.{overOf, recordOf, faultOf, told}
 use Rattle.record.specs.declared.Flows as CFlows
+use Rattle.record.specs.declared.Over as COver
+use Rattle.record.specs.declared.Over.the-variants.{ThisMonth, ManyMonths}
 use Rattle.record.specs.declared.Read.{Read}
 use Rattle.record.specs.declared.Read.the-variants.{Given, Refused}
 use Rattle.record.specs.declared.Record.{Record}
@@ -22,11 +24,19 @@ fault-once hours parties place gln r a b p q = said-once a b (p ∙ sym q)
 abbrev flowsBack : RFlows.Flows → CFlows.Flows
 flowsBack f = record { status = f .status; «net_wh» = f .net; «production_wh» = f .production; «hourly_wh» = f .hourly; «flex_wh» = f .flex }
 
+abbrev overBack : RRecord.Over → COver.Over
+overBack RRecord.thisMonth = ThisMonth
+overBack (RRecord.manyMonths before whole) = ManyMonths before whole
+
+over-back : (over : COver.Over) → overBack (overOf over) ≡ over
+over-back ThisMonth = refl
+over-back (ManyMonths before whole) = refl
+
 abbrev recordBack : RRecord.Record → Record
 recordBack (RRecord.heading h) = Heading (record { area = h .area; year = h .year; month = h .month; hours = h .hours; parties = h .parties; carrier = h .carrier })
 recordBack (RRecord.party p) = Party (p .share)
 recordBack (RRecord.fixedHour hour f) = FixedHour hour (flowsBack f)
-recordBack (RRecord.reading r) = Reading (record { party = r .party; a = r .a; b = r .b; «e_wh» = r .e })
+recordBack (RRecord.reading r) = Reading (record { party = r .party; a = r .a; b = r .b; «e_wh» = r .e; over = overBack (r .over) })
 recordBack (RRecord.price hour p) = Price hour p
 recordBack (RRecord.refixedHour hour f) = RefixedHour hour (flowsBack f)
 recordBack (RRecord.end count) = End count
@@ -35,7 +45,8 @@ record-back : (gln : List ℕ) (r : Record) → recordBack (recordOf gln r) ≡ 
 record-back gln (Heading h) = refl
 record-back gln (Party share) = refl
 record-back gln (FixedHour hour f) = refl
-record-back gln (Reading r) = refl
+record-back gln (Reading r) =
+    ap (λ (over : COver.Over). Reading (record { party = r .party; a = r .a; b = r .b; «e_wh» = r .«e_wh»; over = over })) (over-back (r .over))
 record-back gln (Price hour p) = refl
 record-back gln (RefixedHour hour f) = refl
 record-back gln (End count) = refl

@@ -8,6 +8,8 @@ use Rattle.answer.specs.Said.{named}
 use Rattle.gln.specs.Gln.{glnPart}
 use Rattle.record.specs.declared.Heading as CHeading
 use Rattle.record.specs.declared.Flows as CFlows
+use Rattle.record.specs.declared.Over as COver
+use Rattle.record.specs.declared.Over.the-variants.{ThisMonth, ManyMonths}
 use Rattle.record.specs.declared.Reading as CReading
 use Rattle.record.specs.declared.Record.{Record}
 use Rattle.record.specs.declared.Record.the-variants.{Heading, Party, FixedHour, Reading, Price, RefixedHour, End}
@@ -26,8 +28,12 @@ abbrev pub flowsOf : CFlows.Flows → RFlows.Flows
 flowsOf f =
     record { status = f .status; net = f .«net_wh»; production = f .«production_wh»; hourly = f .«hourly_wh»; flex = f .«flex_wh» }
 
+abbrev pub overOf : COver.Over → RRecord.Over
+overOf ThisMonth = RRecord.thisMonth
+overOf (ManyMonths before whole) = RRecord.manyMonths before whole
+
 abbrev pub readingOf : CReading.Reading → RRecord.Reading
-readingOf r = record { party = r .party; a = r .a; b = r .b; e = r .«e_wh» }
+readingOf r = record { party = r .party; a = r .a; b = r .b; e = r .«e_wh»; over = overOf (r .over) }
 
 -- the record that the code's record is, with the bytes of a GLN beside it
 abbrev pub recordOf : List ℕ → Record → RRecord.Record

@@ -1,4 +1,4 @@
-// The kind bytes (01 "The month file", the table's first column), by name: reader, writer and tests have them from here.
+// The kind bytes (01 "The month file", the table's first column; 02, W3), by name: reader, writer and tests have them from here.
 pub const HEADING: u8 = 1;
 
 pub const PARTY: u8 = 2;
@@ -12,3 +12,5 @@ pub const PRICE: u8 = 5;
 pub const REFIXED_HOUR: u8 = 6;
 
 pub const END: u8 = 7;
+
+pub const LONG_READING: u8 = 8;

@@ -8,11 +8,11 @@ mod table;
 use answer::Answer;
 use answer::Refusal;
 ghost use mathlib.Core.Path.{_≡_};
-ghost use Prim.Native.Nat.{_≤_};
+ghost use Prim.Native.Nat.{_+_, _≤_};
 ghost use lib.ListN.{length, take, drop};
-ghost use Rattle.record.specs.Record.{recordOf, headingOf, flowsOf, readingOf, glnBytes, flowsAt, recordAs, Whole};
+ghost use Rattle.record.specs.Record.{recordOf, headingOf, flowsOf, overOf, readingOf, glnBytes, flowsAt, recordAs, Whole};
 ghost use Rattle.record.specs.Promised.{BodyLengthPromised, FaultPromised, ReadAlonePromised};
-ghost use Rattle.rules.specs.Record.{headingKind, readingKind, heading, reading, numberOnto, signed, recordAt};
+ghost use Rattle.rules.specs.Record.{headingKind, readingKind, longReadingKind, readingKindOf, heading, reading, bodyLength, numberOnto, signed, recordAt};
 
 // "01 heading: area 2, year 2, month 1, hours H 2, parties P 1, loss carrier 1"
 pub struct Heading {
@@ -33,12 +33,19 @@ pub struct Flows {
     pub flex_wh: u64,
 }
 
-// "04 reading: party 1, a 2, b 2, E 4"
+// What a reading's E lies over: this month, or several months (02, W3: "weight before this month 8, weight of the whole reading 8").
+pub enum Over {
+    ThisMonth,
+    ManyMonths(u64, u64),
+}
+
+// "04 reading: party 1, a 2, b 2, E 4", and W3's 08: one type for both
 pub struct Reading {
     pub party: u8,
     pub a: u16,
     pub b: u16,
     pub e_wh: u32,
+    pub over: Over,
 }
 
 // A record by kind. A party's GLN stands beside it, as a part of the file: here is its load share in kWh.
@@ -66,6 +73,8 @@ pub const PARTY_SIZE: usize = 1 + table::BODY[kind::PARTY as usize] as usize;
 pub const HOUR_SIZE: usize = 1 + table::BODY[kind::FIXED_HOUR as usize] as usize;
 
 pub const READING_SIZE: usize = 1 + table::BODY[kind::READING as usize] as usize;
+
+pub const LONG_READING_SIZE: usize = 1 + table::BODY[kind::LONG_READING as usize] as usize;
 
 pub const PRICE_SIZE: usize = 1 + table::BODY[kind::PRICE as usize] as usize;
 
@@ -126,6 +135,33 @@ pub fn reading_in(part: &[u8]) -> Reading
         a: fields::u16_at(part, 2),
         b: fields::u16_at(part, 4),
         e_wh: fields::u32_at(part, 6),
+        over: Over::ThisMonth,
+    }
+}
+
+pub fn long_reading_in(part: &[u8]) -> Reading
+    requires { ⌜ 26 ≤ length (now part) ⌝ }
+    ensures { λ r. ⌜ reading (readingOf r) ≡ recordAs longReadingKind (now (part .entry)) ⌝ }
+{
+    let before = fields::number_at(part, 10, 8);
+    let whole = fields::number_at(part, 18, 8);
+    Reading {
+        party: fields::u8_at(part, 1),
+        a: fields::u16_at(part, 2),
+        b: fields::u16_at(part, 4),
+        e_wh: fields::u32_at(part, 6),
+        over: Over::ManyMonths(before, whole),
+    }
+}
+
+// How many bytes a reading has with its kind byte.
+pub fn reading_size(r: Reading) -> usize
+    ensures { λ n. ⌜ n ≡ 1 + bodyLength (readingKindOf (overOf (r .over))) ⌝ }
+{
+    let over = r.over;
+    match over {
+        Over::ThisMonth => READING_SIZE,
+        Over::ManyMonths(_, _) => LONG_READING_SIZE,
     }
 }
 
@@ -156,6 +192,7 @@ pub fn decode(part: &[u8]) -> Record
         kind::READING => Record::Reading(reading_in(part)),
         kind::PRICE => Record::Price(fields::u16_at(part, 1), price_in(part)),
         kind::REFIXED_HOUR => Record::RefixedHour(fields::u16_at(part, 1), flows_in(part)),
+        kind::LONG_READING => Record::Reading(long_reading_in(part)),
         _ => Record::End(fields::u32_at(part, 1)),
     }
 }

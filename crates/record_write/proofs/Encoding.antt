@@ -13,15 +13,15 @@ use Rattle.record_write.specs.Fields.{glue, uncomplemented}
 use Rattle.record_write.specs.Writing.{hourBytes}
 use Rattle.rules.specs.Flows.{Flows}
 use Rattle.rules.specs.Limits.{glnDigits}
-use Rattle.rules.specs.Record.{headingKind, partyKind, readingKind, priceKind, endKind, layouts, widthsIn, fieldWidths, Heading, Reading, heading, party, reading, price, end}
-use Rattle.rules.specs.Record.{bytesOf, fieldBytes, inWidths, hourFields, fieldsOf, recordBytes}
+use Rattle.rules.specs.Record.{headingKind, partyKind, readingKind, priceKind, endKind, longReadingKind, layouts, widthsIn, fieldWidths, Heading, thisMonth, manyMonths}
+use Rattle.rules.specs.Record.{heading, party, reading, price, end, bytesOf, fieldBytes, inWidths, hourFields, weightFields, fieldsOf, recordBytes}
 use Rattle.rules.specs.Words.{joined}
 use Rattle.rules.proofs.Lines.{sets-append}
 use Rattle.record_write.proofs.Complement.{unsigned-4, unsigned-8}
 
 -- To unfold this name is to unfold all that a record's bytes are computed by, and no more is meant by it.
 unfoldable pub record-bytes : Unit {0}
-unfolding recordBytes fieldWidths layouts widthsIn fieldsOf hourFields inWidths fieldBytes joined hourBytes
+unfolding recordBytes fieldWidths layouts widthsIn fieldsOf hourFields weightFields inWidths fieldBytes joined hourBytes
 record-bytes = tt
 
 -- one byte stands for itself
@@ -44,9 +44,16 @@ unfolding glue record-bytes
 hour-glued k b hour f s e =
     rw (e, toZ-ofZ s, unsigned-8 (f .net)) (after-kind k b _)
 
-pub reading-glued : (r : Reading) → glue (1 ∷ 1 ∷ 2 ∷ 2 ∷ 4 ∷ []) (readingKind ∷ r .party ∷ r .a ∷ r .b ∷ r .e ∷ []) ≡ recordBytes (reading r)
+pub reading-glued : (who a b e : ℕ)
+    → glue (1 ∷ 1 ∷ 2 ∷ 2 ∷ 4 ∷ []) (readingKind ∷ who ∷ a ∷ b ∷ e ∷ []) ≡ recordBytes (reading (record { party = who; a = a; b = b; e = e; over = thisMonth }))
 unfolding glue record-bytes
-reading-glued r = after-kind readingKind (omega arith) _
+reading-glued who a b e = after-kind readingKind (omega arith) _
+
+pub long-reading-glued : (who a b e before whole : ℕ)
+    → glue (1 ∷ 1 ∷ 2 ∷ 2 ∷ 4 ∷ 8 ∷ 8 ∷ []) (longReadingKind ∷ who ∷ a ∷ b ∷ e ∷ before ∷ whole ∷ [])
+    ≡ recordBytes (reading (record { party = who; a = a; b = b; e = e; over = manyMonths before whole }))
+unfolding glue record-bytes
+long-reading-glued who a b e before whole = after-kind longReadingKind (omega arith) _
 
 pub price-glued : (hour : ℕ) (p : ℤ) → SFits w64 p → {u : ℕ} → u ≡ uncomplemented 4294967295 (toZ w64 (ofZ w64 p))
     → glue (1 ∷ 2 ∷ 4 ∷ []) (priceKind ∷ hour ∷ u ∷ []) ≡ recordBytes (price hour p)

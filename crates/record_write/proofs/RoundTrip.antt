@@ -1,6 +1,6 @@
 -- Demand 2, of the two functions together: what `write` wrote, `read_alone` reads as the same record; what `read_alone` read, `write` writes as the same
 -- bytes. Each follows from the two promises and the round trips of the rules. What is asked besides is what the machine's types give: an end count of 32
--- bits, bytes below 256.
+-- bits, weights of 64, bytes below 256.
 use mathlib.Core.List.{List, _++_}
 use mathlib.Core.Path.{_≡_, sym, _∙_, ap}
 use Prim.Native.Nat.{ℕ, _+_, _≤_}
@@ -24,7 +24,7 @@ use Rattle.record_write.proofs.WriteOne.{verdict-is}
 module _ (gln : List ℕ) (r : Code′.Record) (out after : List ℕ) (w : Code″.Written)
     (wrote-it : Promised r gln out w after) where
   -- READ OF WRITTEN IS THE SAME RECORD
-  pub read-what-was-written : (n : ℕ) → w ≡ Bytes n → R.CountHeld (recordOf gln r)
+  pub read-what-was-written : (n : ℕ) → w ≡ Bytes n → R.Held (recordOf gln r)
       → (found : Code.Read) → ReadAlonePromised after found → told (glnBytes after) found ≡ given (recordOf gln r)
   unfolding afterwards written
   read-what-was-written n e held found promise =

@@ -6,6 +6,7 @@ use lib.Dec.{leb}
 use lib.ListN.{length}
 use Rattle.answer.specs.Said.{named}
 use Rattle.record.specs.Record.{recordOf}
+use Rattle.record.specs.declared.Reading as CReading
 use Rattle.record.specs.declared.Record.{Record}
 use Rattle.record_write.specs.declared.Written.{Written}
 use Rattle.record_write.specs.declared.Written.the-variants.{Bytes, Refused}
@@ -21,6 +22,10 @@ kindOf r = RRecord.kindOf (recordOf [] r)
 -- "03 fixed hour", "06 refixed hour: as 03": the bytes of either after its kind
 unfoldable pub hourBytes : ℕ → Flows → List ℕ
 hourBytes hour f = joined (RRecord.inWidths RRecord.hourWidths (RRecord.hourFields hour f))
+
+-- "04 reading: party 1, a 2, b 2, E 4", W3: 08 with two weights besides: the numbers of a reading, over this month or over several
+abbrev pub readingOver : CReading.Reading → RRecord.Over → RRecord.Reading
+readingOver r over = record { party = r .party; a = r .a; b = r .b; e = r .«e_wh»; over = over }
 
 -- a record has no fault, and a part has room for it
 pub record Writable (gln : List ℕ) (r : Record) (out : List ℕ) : Type 0 where

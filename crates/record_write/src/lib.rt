@@ -8,6 +8,7 @@ use record::Flows;
 use record::Heading;
 use record::MOST_HOURS;
 use record::MOST_PARTIES;
+use record::Over;
 use record::Reading;
 use record::Record;
 use record::TOP_4;
@@ -15,14 +16,14 @@ use record::TOP_8;
 use record::kind;
 ghost use mathlib.Core.Path.{_≡_};
 ghost use mathlib.Core.List.{_∷_};
-ghost use Prim.Native.Nat.{_≤_};
+ghost use Prim.Native.Nat.{_+_, _≤_};
 ghost use lib.ListN.{length};
 ghost use lib.Seq.{sets};
 ghost use lib.Signed.{mag};
-ghost use Rattle.record.specs.Record.{recordOf, headingOf, flowsOf, readingOf};
-ghost use Rattle.record_write.specs.Writing.{wrote, kindOf, hourBytes, Writable, roomFor, WrittenUnder, Promised};
+ghost use Rattle.record.specs.Record.{recordOf, headingOf, flowsOf, overOf, readingOf};
+ghost use Rattle.record_write.specs.Writing.{wrote, kindOf, hourBytes, readingOver, Writable, roomFor, WrittenUnder, Promised};
 ghost use Rattle.rules.specs.Limits.{glnDigits};
-ghost use Rattle.rules.specs.Record.{heading, reading, price, end, recordBytes, alone, checks};
+ghost use Rattle.rules.specs.Record.{heading, thisMonth, manyMonths, reading, price, end, bodyLength, readingKindOf, recordBytes, alone, checks};
 ghost use Rattle.rules.specs.Refusals.{accepted, first};
 
 // The kinds as the numbers that are written.
@@ -36,10 +37,23 @@ const PRICE: u64 = kind::PRICE as u64;
 
 const END: u64 = kind::END as u64;
 
+const LONG_READING: u64 = kind::LONG_READING as u64;
+
 // What writing one record gives: the number of bytes, or the refusal.
 pub enum Written {
     Bytes(usize),
     Refused(Refusal, usize),
+}
+
+// A reading's kind byte, by what it lies over.
+fn reading_kind(x: Reading) -> u8
+    ensures { λ k. ⌜ k ≡ readingKindOf (overOf (x .over)) ⌝ }
+{
+    let over = x.over;
+    match over {
+        Over::ThisMonth => kind::READING,
+        Over::ManyMonths(_, _) => kind::LONG_READING,
+    }
 }
 
 // A record's kind byte.
@@ -50,7 +64,7 @@ fn kind_of(r: Record) -> u8
         Record::Heading(_) => kind::HEADING,
         Record::Party(_) => kind::PARTY,
         Record::FixedHour(_, _) => kind::FIXED_HOUR,
-        Record::Reading(_) => kind::READING,
+        Record::Reading(x) => reading_kind(x),
         Record::Price(_, _) => kind::PRICE,
         Record::RefixedHour(_, _) => kind::REFIXED_HOUR,
         Record::End(_) => kind::END,
@@ -101,9 +115,9 @@ fn put_hour(sort: u8, hour: u16, f: Flows, out: &mut [u8])
     fields::put_all(out, &widths, &values);
 }
 
-fn put_reading(x: Reading, out: &mut [u8])
+fn put_month_reading(x: Reading, out: &mut [u8])
     requires { ⌜ 10 ≤ length (now out) ⌝ }
-    ensures { λ r. ⌜ now (out .exit) ≡ sets (now (out .entry)) 0 (recordBytes (reading (readingOf x))) ⌝ }
+    ensures { λ r. ⌜ now (out .exit) ≡ sets (now (out .entry)) 0 (recordBytes (reading (readingOver x thisMonth))) ⌝ }
 {
     let widths = [1usize, 1, 2, 2, 4];
     let values = [
@@ -114,6 +128,35 @@ fn put_reading(x: Reading, out: &mut [u8])
         x.e_wh as u64,
     ];
     fields::put_all(out, &widths, &values);
+}
+
+fn put_long_reading(x: Reading, before: u64, whole: u64, out: &mut [u8])
+    requires { ⌜ 26 ≤ length (now out) ⌝ }
+    ensures { λ r. ⌜ now (out .exit) ≡ sets (now (out .entry)) 0 (recordBytes (reading (readingOver x (manyMonths before whole)))) ⌝ }
+{
+    let widths = [1usize, 1, 2, 2, 4, 8, 8];
+    let values = [
+        LONG_READING,
+        x.party as u64,
+        x.a as u64,
+        x.b as u64,
+        x.e_wh as u64,
+        before,
+        whole,
+    ];
+    fields::put_all(out, &widths, &values);
+}
+
+// A reading of either kind.
+fn put_reading(x: Reading, out: &mut [u8])
+    requires { ⌜ 1 + bodyLength (readingKindOf (overOf (x .over))) ≤ length (now out) ⌝ }
+    ensures { λ r. ⌜ now (out .exit) ≡ sets (now (out .entry)) 0 (recordBytes (reading (readingOf x))) ⌝ }
+{
+    let over = x.over;
+    match over {
+        Over::ThisMonth => put_month_reading(x, out),
+        Over::ManyMonths(before, whole) => put_long_reading(x, before, whole, out),
+    }
 }
 
 fn put_price(hour: u16, price_ore: i64, out: &mut [u8])

@@ -104,13 +104,13 @@ body-short k = go (known k) refl
     go true e = each-kind (λ (k : ℕ) (ws : List ℕ). totalOf ws ≤ 35) short-entries k e
     go false e = omega (arith, leb-false 1 (bodyLength k) e)
 
--- a known kind that is none of the others is the reading over months, which stands last in the table
+-- a known kind that is none of the others is the end
 abbrev pub Not : ℕ → ℕ → Type 0
 Not k other = k ≡ other → ⊥
 
 abbrev LastKind : ℕ → List ℕ → Type 0
 LastKind k ws =
-    Not k headingKind → Not k partyKind → Not k fixedHourKind → Not k readingKind → Not k priceKind → Not k refixedHourKind → Not k endKind → k ≡ longReadingKind
+    Not k headingKind → Not k partyKind → Not k fixedHourKind → Not k readingKind → Not k priceKind → Not k refixedHourKind → Not k longReadingKind → k ≡ endKind
 
 last-kinds : Entries LastKind layouts
 unfolding layouts
@@ -122,7 +122,7 @@ last-kinds = (
       λ a b c d e f g. absurd (c refl),
       (
         λ a b c d e f g. absurd (d refl),
-        (λ a b c d e f g. absurd (e refl), (λ a b c d e f g. absurd (f refl), (λ a b c d e f g. absurd (g refl), (λ a b c d e f g. refl, tt)))),
+        (λ a b c d e f g. absurd (e refl), (λ a b c d e f g. absurd (f refl), (λ a b c d e f g. refl, (λ a b c d e f g. absurd (g refl), tt)))),
       ),
     ),
   ),
@@ -131,9 +131,9 @@ last-kinds = (
 -- the same, as a match on a kind leaves it
 abbrev pub NoneOfTheOthers : ℕ → Type 0
 NoneOfTheOthers k =
-    ((((((Unit {0} × Not k headingKind) × Not k partyKind) × Not k fixedHourKind) × Not k readingKind) × Not k priceKind) × Not k refixedHourKind) × Not k endKind
+    ((((((Unit {0} × Not k headingKind) × Not k partyKind) × Not k fixedHourKind) × Not k readingKind) × Not k priceKind) × Not k refixedHourKind) × Not k longReadingKind
 
-pub last-kind : (k : ℕ) → known k ≡ true → NoneOfTheOthers k → k ≡ longReadingKind
+pub last-kind : (k : ℕ) → known k ≡ true → NoneOfTheOthers k → k ≡ endKind
 last-kind k e n =
     each-kind LastKind last-kinds k e (n .0 .0 .0 .0 .0 .0 .1) (n .0 .0 .0 .0 .0 .1) (n .0 .0 .0 .0 .1) (n .0 .0 .0 .1) (n .0 .0 .1) (n .0 .1) (n .1)
 

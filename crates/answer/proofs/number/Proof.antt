@@ -112,6 +112,12 @@ enum-told-17 c = search needs
 returns-17 : tie.Need-returns-17
 returns-17 c = numbered (c .enum-told17 .given .1)
 
+enum-told-18 : tie.Need-enum-told-18
+enum-told-18 c = search needs
+
+returns-18 : tie.Need-returns-18
+returns-18 c = numbered (c .enum-told18 .given .1)
+
 pub number-spec : {M : Type 1} → statement M
 number-spec =
     tie.close
@@ -133,6 +139,7 @@ number-spec =
     enum-told-15
     enum-told-16
     enum-told-17
+    enum-told-18
     returns
     returns-2
     returns-3
@@ -149,4 +156,5 @@ number-spec =
     returns-14
     returns-15
     returns-16
-    returns-17)
+    returns-17
+    returns-18)

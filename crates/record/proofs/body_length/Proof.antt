@@ -15,7 +15,7 @@ use Rattle.record.proofs.body_length.Statement.{statement}
 use Rattle.record.proofs.body_length.Tie as tie
 
 table : List ℕ
-table = 0 ∷ 9 ∷ 21 ∷ 35 ∷ 9 ∷ 6 ∷ 35 ∷ 4 ∷ replicate 248 0
+table = 0 ∷ 9 ∷ 21 ∷ 35 ∷ 9 ∷ 6 ∷ 35 ∷ 4 ∷ 25 ∷ replicate 247 0
 
 right : ℕ → ℕ → Bool
 unfolding body-lengths

@@ -1,8 +1,8 @@
--- `record::decode` meets its contract: each kind reads its own fields, and a known kind that is none of the first six is the end. Assumes nothing.
+-- `record::decode` meets its contract: each kind reads its own fields, and a known kind that is none of the others is the end. Assumes nothing.
 use mir.Facts.{toZ-ofZ}
 use mir.Syntax.{w64}
 use mir.Val.{SFits}
-use Rattle.rules.specs.Record.{headingKind, partyKind, fixedHourKind, readingKind, priceKind, refixedHourKind, endKind}
+use Rattle.rules.specs.Record.{headingKind, partyKind, fixedHourKind, readingKind, priceKind, refixedHourKind, endKind, longReadingKind}
 use Rattle.rules.proofs.EachKind.{body-lengths}
 use mathlib.Core.Path.{_∙_}
 use native.Mathlib.Omega.{arith}
@@ -50,6 +50,10 @@ flows-in-requires-2 : tie.Need-flows-in-requires-2
 unfolding body-lengths
 flows-in-requires-2 c κs = omega (arith, stands (c .before .before .before .before .pre) refixedHourKind (c .before .match .keys6))
 
+long-reading-in-requires : tie.Need-long-reading-in-requires
+unfolding body-lengths
+long-reading-in-requires c κs = omega (arith, stands (c .before .before .before .pre) longReadingKind (c .match .keys7))
+
 u32-at-requires : tie.Need-u32-at-requires
 unfolding body-lengths
 u32-at-requires c κs = omega (arith, stands (c .before .before .before .pre) endKind (end-kind (c .before .before .before .pre) (c .match .rest)))
@@ -82,7 +86,10 @@ returns-6 : tie.Need-returns-6
 returns-6 c = rw (c .before .u16-at3 .ensures, c .flows-in2 .ensures) (refixed-is _ ∙ as-at (c .before .before .before .before .before .pre) refixedHourKind (c .before .before .match .keys6))
 
 returns-7 : tie.Need-returns-7
-returns-7 c = rw (c .u32-at .ensures) (end-is _ ∙ as-at (c .before .before .before .before .pre) endKind (end-kind (c .before .before .before .before .pre) (c .before .match .rest)))
+returns-7 c = c .long-reading-in .ensures ∙ as-at (c .before .before .before .before .pre) longReadingKind (c .before .match .keys7)
+
+returns-8 : tie.Need-returns-8
+returns-8 c = rw (c .u32-at .ensures) (end-is _ ∙ as-at (c .before .before .before .before .pre) endKind (end-kind (c .before .before .before .before .pre) (c .before .match .rest)))
 
 pub decode-spec : {M : Type 1} → statement M
 decode-spec =
@@ -98,6 +105,7 @@ decode-spec =
     price-in-requires
     u16-at-requires-3
     flows-in-requires-2
+    long-reading-in-requires
     u32-at-requires
     returns
     returns-2
@@ -105,4 +113,5 @@ decode-spec =
     returns-4
     returns-5
     returns-6
-    returns-7)
+    returns-7
+    returns-8)

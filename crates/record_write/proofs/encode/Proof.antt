@@ -42,7 +42,7 @@ enum-known-r-4 c = search needs
 
 put-reading-requires : tie.Need-put-reading-requires
 unfolding body-lengths
-put-reading-requires c κs = omega (arith, room-of (c .before .before .before .before .before .before .pre) RRecord.readingKind (ap kindOf (c .before .before .r4 .given .1)))
+put-reading-requires c κs = room-of (c .before .before .before .before .before .before .pre) _ (ap kindOf (c .before .before .r4 .given .1))
 
 enum-known-r-5 : tie.Need-enum-known-r-5
 enum-known-r-5 c = search needs

@@ -1,51 +1,45 @@
--- `record_write::put_reading` meets its contract: the fields glued in their widths are the bytes. Assumes nothing.
+-- `record_write::put_reading` meets its contract: each kind of reading is written by its own function. Assumes nothing.
 use native.Mathlib.Omega.{arith}
-use mathlib.Core.Path.{_∙_, ap}
-use lib.Seq.{sets}
-use Rattle.record_write.specs.Fields.{total}
-use Rattle.record_write.proofs.Encoding.{reading-glued}
+use Rattle.rules.proofs.EachKind.{body-lengths}
 use borrow.Author.Needs.{needs}
 use Rattle.record_write.proofs.put_reading.Statement.{statement}
 use Rattle.record_write.proofs.put_reading.Tie as tie
 
-cast-t5 : tie.Need-cast-t5
-cast-t5 c = search needs
+enum-told : tie.Need-enum-told
+enum-told c = search needs
 
-cast-t6 : tie.Need-cast-t6
-cast-t6 c = search needs
+put-month-reading-requires : tie.Need-put-month-reading-requires
+unfolding body-lengths
+put-month-reading-requires c κs = let room = rw (c .before .enum-told .given .1) at (c .before .before .before .before .pre) in omega arith
 
-cast-t7 : tie.Need-cast-t7
-cast-t7 c = search needs
+enum-known-over : tie.Need-enum-known-over
+enum-known-over c = search needs
 
-cast-t8 : tie.Need-cast-t8
-cast-t8 c = search needs
-
-slice-aggregate-put-all : tie.Need-slice-aggregate-put-all
-slice-aggregate-put-all c = search needs
-
-slice-aggregate-put-all-2 : tie.Need-slice-aggregate-put-all-2
-slice-aggregate-put-all-2 c = search needs
-
-put-all-requires : tie.Need-put-all-requires
-unfolding total
-put-all-requires c κs = omega arith
+put-long-reading-requires : tie.Need-put-long-reading-requires
+unfolding body-lengths
+put-long-reading-requires c κs = let room = rw (c .before .before .over .given .1) at (c .before .before .before .before .before .pre) in omega arith
 
 same-length : tie.Need-same-length
 same-length c = search needs
 
 returns : tie.Need-returns
-returns c = c .before .before .put-all .ensures ∙ ap (sets _ 0) (reading-glued _)
+returns c = rw (c .before .before .before .before .enum-told .given .1) (c .before .before .put-month-reading .ensures)
+
+same-length-2 : tie.Need-same-length-2
+same-length-2 c = search needs
+
+returns-2 : tie.Need-returns-2
+returns-2 c = rw (c .before .before .before .before .before .over .given .1) (c .before .before .put-long-reading .ensures)
 
 pub put-reading-spec : {M : Type 1} → statement M
 put-reading-spec =
     tie.close
     (tie.spec
-    cast-t5
-    cast-t6
-    cast-t7
-    cast-t8
-    slice-aggregate-put-all
-    slice-aggregate-put-all-2
-    put-all-requires
+    enum-told
+    put-month-reading-requires
+    enum-known-over
+    put-long-reading-requires
     same-length
-    returns)
+    returns
+    same-length-2
+    returns-2)
