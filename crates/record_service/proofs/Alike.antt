@@ -1,31 +1,32 @@
 -- The numbers that the code holds in their fields and the numbers themselves are judged alike: every range ends below what its field can hold, so a number
 -- outside its range stays outside when the nearest that fits stands for it; and a record that is accepted has only numbers that fit, so it is the very record.
 -- And the code's tests of the list are those of the rules.
-use mathlib.Core.Bool.{Bool, true, false, cond, _&&_}
+use mathlib.Core.Bool.{Bool, true, false, cond, _&&_, _||_}
 use mathlib.Core.List.{List, [], _∷_}
 use mathlib.Core.Path.{_≡_, refl, sym, _∙_, ap, ap₂}
-use Prim.Native.Nat.{ℕ, suc, _≤_, _<_, _^_}
+use Prim.Native.Nat.{ℕ, zero, suc, _+_, _≤_, _<_, _^_}
+use native.Mathlib.Nat.{add-zero, add-suc, suc-add}
 use native.Mathlib.Omega.{arith}
-use borrow.Author.Tests.{le-leb, leb-true, ltb-true}
+use borrow.Author.Tests.{le-leb, leb-true, ltb-true, eqb-true}
 use lib.Dec.{eqb, leb, ltb, leb·suc-suc, eqb·zero-suc, eqb·suc-zero, eqb·suc-suc}
 use lib.IntN.{ℤ, pos, negsuc, natAbs}
 use lib.ListN.{length}
 use lib.Signed.{leZ}
 use Rattle.record.specs.Record.{recordOf}
-use Rattle.record_service.specs.Held.{fieldCount, signedPlace, signsFrom, listRight, heldIn, held, heldRecord}
+use Rattle.record_service.specs.Held.{fieldCount, signedPlace, signsFrom, fieldsHeld, listRight, heldIn, held, heldRecord}
 use Rattle.rules.specs.Accepted.{NoneRefuses}
 use Rattle.rules.specs.Flows.{Flows, flowsInRange, silentIsZero}
 use Rattle.rules.specs.Gln.{validGln}
 use Rattle.rules.specs.Limits.{greatestArea, latestYear, monthsOfAYear, mostHours, mostParties, greatestShare, greatestEnergy, greatestPrice, greatestFlow, estimated}
-use Rattle.rules.specs.PlainRecord.{nth, noSign, nthNoSign, plainHeading, plainFlows, plainReading, plainRecord, standIn, countHeld}
+use Rattle.rules.specs.PlainRecord.{nth, noSign, nthNoSign, plainHeading, plainFlows, plainReading, plainRecord, standIn, fieldsHold}
 use Rattle.rules.specs.Record as R
-use Rattle.rules.specs.Record.{Field, number, signedNumber, digits, fieldsOf, hourFields, layouts, known, alone, checks, headingInRange, hourInRange}
+use Rattle.rules.specs.Record.{Field, number, signedNumber, digits, fieldsOf, hourFields, weightFields, layouts, known, alone, checks, headingInRange, hourInRange}
 use Rattle.rules.specs.Refusals.{Verdict, accepted, outOfRange, spanFault, energyTooLarge, glnFault, unless, first}
 use Rattle.rules.specs.Words.{withinℤ}
 use Rattle.rules.proofs.EachKind.{Entries, each-kind, body-lengths}
 use Rattle.rules.proofs.Refusals.{accepted-exactly, unless-exactly}
 use Rattle.rules.proofs.RoundTrip.{both-true}
-use Rattle.rules.proofs.Whole.{heading-facts}
+use Rattle.rules.proofs.Whole.{heading-facts, true-not-false}
 
 -- a number in a field whose greatest is `most`: as it is held there, or as it is
 unfoldable seen : Bool → ℕ → ℤ → ℕ
@@ -200,21 +201,47 @@ module _ (l : List ℤ) (gln : List ℕ) where
   abbrev three-checks : Bool → Bool → Bool → Verdict
   three-checks t u v = first (unless t outOfRange 0 ∷ unless u spanFault 0 ∷ unless v energyTooLarge 0 ∷ [])
 
+  reading-verdicts :
+      three-checks (ltb (at-8 true 0) mostParties) (span-right (span-seen true)) (leb (energy-seen true) greatestEnergy)
+      ≡ three-checks (ltb (at-8 false 0) mostParties) (span-right (span-seen false)) (leb (energy-seen false) greatestEnergy)
+  reading-verdicts =
+      ap₂ (λ (t u : Bool). three-checks t u (leb (energy-seen true) greatestEnergy)) (alike (λ n. ltb n mostParties) (λ s. at-8 s 0) one-party)
+      (alike span-right span-seen one-span)
+      ∙ ap (three-checks (ltb (at-8 false 0) mostParties) (span-right (span-seen false))) (alike (λ n. leb n greatestEnergy) energy-seen one-energy)
+
   readings-alike : Alike R.readingKind
   unfolding heldRecord plainRecord plainReading nthNoSign held seen checks
   readings-alike =
       record {
-        verdict =
-            ap₂ (λ (t u : Bool). three-checks t u (leb (energy-seen true) greatestEnergy))
-            (alike (λ n. ltb n mostParties) (λ s. at-8 s 0) one-party)
-            (alike span-right span-seen one-span)
-            ∙ ap (three-checks (ltb (at-8 false 0) mostParties) (span-right (span-seen false))) (alike (λ n. leb n greatestEnergy) energy-seen one-energy);
+        verdict = reading-verdicts;
         same =
             λ c.
             let whose = one-party false (unless-exactly _ _ _ .0 (c .0)) in
             let span = one-span false (unless-exactly _ _ _ .0 (c .1 .0)) in
             let energy = one-energy false (unless-exactly _ _ _ .0 (c .1 .1 .0)) in
-            λ i. R.reading (record { party = whose i; a = span i .0; b = span i .1; e = energy i });
+            λ i. R.reading (record { party = whose i; a = span i .0; b = span i .1; e = energy i; over = R.thisMonth });
+      }
+
+  -- W3: any weights are good: so only those that their eight bytes hold are let through
+  held-in-full : (most : ℕ) (z : ℤ) → noSign z < suc most → heldIn most z ≡ noSign z
+  unfolding heldIn noSign
+  held-in-full most (pos n) h = rw (le-leb n most (omega arith))
+  held-in-full most (negsuc n) h = refl
+
+  long-readings-alike : fieldsHold R.longReadingKind l ≡ true → Alike R.longReadingKind
+  unfolding heldRecord plainRecord plainReading nthNoSign held seen checks fieldsHold
+  long-readings-alike h =
+      let both = both-true (ltb (noSign (nth l 4)) (256 ^ 8)) (ltb (noSign (nth l 5)) (256 ^ 8)) h in
+      let before = held-in-full 18446744073709551615 (nth l 4) (ltb-true (noSign (nth l 4)) (256 ^ 8) (both .0)) in
+      let whole = held-in-full 18446744073709551615 (nth l 5) (ltb-true (noSign (nth l 5)) (256 ^ 8) (both .1)) in
+      record {
+        verdict = reading-verdicts;
+        same =
+            λ c.
+            let whose = one-party false (unless-exactly _ _ _ .0 (c .0)) in
+            let span = one-span false (unless-exactly _ _ _ .0 (c .1 .0)) in
+            let energy = one-energy false (unless-exactly _ _ _ .0 (c .1 .1 .0)) in
+            λ i. R.reading (record { party = whose i; a = span i .0; b = span i .1; e = energy i; over = R.manyMonths (before i) (whole i) });
       }
 
   prices-alike : Alike R.priceKind
@@ -226,30 +253,26 @@ module _ (l : List ℤ) (gln : List ℕ) where
       }
 
   -- any end count is good: so only one that its four bytes hold is let through
-  ends-alike : countHeld R.endKind l ≡ true → Alike R.endKind
-  unfolding heldRecord plainRecord nthNoSign held heldIn noSign checks countHeld
-  ends-alike e = record { verdict = refl; same = λ c. ap R.end (go (nth l 0) (ltb-true (noSign (nth l 0)) (256 ^ 4) e)) }
-    where
-      go : (z : ℤ) → noSign z < 256 ^ 4 → heldIn 4294967295 z ≡ noSign z
-      go (pos n) h = rw (le-leb n 4294967295 (omega arith))
-      go (negsuc n) h = refl
+  ends-alike : fieldsHold R.endKind l ≡ true → Alike R.endKind
+  unfolding heldRecord plainRecord nthNoSign held checks fieldsHold
+  ends-alike e = record { verdict = refl; same = λ c. ap R.end (held-in-full 4294967295 (nth l 0) (ltb-true (noSign (nth l 0)) (256 ^ 4) e)) }
 
-  every-kind : Entries (λ (k : ℕ) (ws : List ℕ). countHeld k l ≡ true → Alike k) layouts
+  every-kind : Entries (λ (k : ℕ) (ws : List ℕ). fieldsHold k l ≡ true → Alike k) layouts
   unfolding layouts
   every-kind = (
     λ e. headings-alike,
-    (λ e. parties-alike, (λ e. fixed-alike, (λ e. readings-alike, (λ e. prices-alike, (λ e. refixed-alike, (ends-alike, tt)))))),
+    (λ e. parties-alike, (λ e. fixed-alike, (λ e. readings-alike, (λ e. prices-alike, (λ e. refixed-alike, (ends-alike, (long-readings-alike, tt))))))),
   )
 
-  pub judged-alike : (kind : ℕ) → known kind ≡ true → countHeld kind l ≡ true
+  pub judged-alike : (kind : ℕ) → known kind ≡ true → fieldsHold kind l ≡ true
       → first (checks alone (recordOf gln (heldRecord kind l))) ≡ first (checks alone (plainRecord kind l gln))
-  judged-alike kind has e = each-kind (λ (k : ℕ) (ws : List ℕ). countHeld k l ≡ true → Alike k) every-kind kind has e .verdict
+  judged-alike kind has e = each-kind (λ (k : ℕ) (ws : List ℕ). fieldsHold k l ≡ true → Alike k) every-kind kind has e .verdict
 
-  pub accepted-same : (kind : ℕ) → known kind ≡ true → countHeld kind l ≡ true
+  pub accepted-same : (kind : ℕ) → known kind ≡ true → fieldsHold kind l ≡ true
       → first (checks alone (plainRecord kind l gln)) ≡ accepted
       → recordOf gln (heldRecord kind l) ≡ plainRecord kind l gln
   accepted-same kind has e ok =
-      each-kind (λ (k : ℕ) (ws : List ℕ). countHeld k l ≡ true → Alike k) every-kind kind has e .same (accepted-exactly (checks alone (plainRecord kind l gln)) .0 ok)
+      each-kind (λ (k : ℕ) (ws : List ℕ). fieldsHold k l ≡ true → Alike k) every-kind kind has e .same (accepted-exactly (checks alone (plainRecord kind l gln)) .0 ok)
 
 -- THE TESTS OF THE LIST. The rules go through a record's fields, and the code through the numbers, of which one place may be negative: so they say the same
 -- where that place is the place of the field that has a sign.
@@ -290,9 +313,28 @@ count-right [] n = refl
 count-right (pos k ∷ l) n = ap (λ (t : Bool). standIn (number n ∷ []) (pos k ∷ l) && t) (sym (leb·suc-suc k 4294967295))
 count-right (negsuc k ∷ l) n = refl
 
+-- a weight that is not below 0 is held in eight bytes where it is at most 2^64 - 1
+weight-right : (z : ℤ) → leZ (pos 0) z ≡ true → leb (natAbs z) 18446744073709551615 ≡ ltb (noSign z) (256 ^ 8)
+unfolding noSign
+weight-right (pos n) h = sym (leb·suc-suc n 18446744073709551615)
+weight-right (negsuc n) h = absurd (true-not-false (sym h))
+
+abbrev test-8 : List ℤ → ℕ → Bool
+test-8 l k = leb (natAbs (nth l k)) 18446744073709551615
+
+-- where the signs are right, a number that is not the one with a sign is not below 0
+sign-at : (place i : ℕ) (l : List ℤ) → signsFrom place i l ≡ true → (k : ℕ) → k < length l → eqb (i + k) place ≡ false → leZ (pos 0) (nth l k) ≡ true
+unfolding signsFrom
+sign-at place i [] s k b other = absurd (omega arith)
+sign-at place i (z ∷ l) s zero b other =
+    let plain : eqb i place ≡ false = rw (add-zero i) at other in
+    ap (λ (t : Bool). t || leZ (pos 0) z) (sym plain) ∙ both-true (eqb i place || leZ (pos 0) z) (signsFrom place (suc i) l) s .0
+sign-at place i (z ∷ l) s (suc k) b other =
+    sign-at place (suc i) l (both-true (eqb i place || leZ (pos 0) z) (signsFrom place (suc i) l) s .1) k (omega arith) (rw (add-suc i k, ← (suc-add i k)) at other)
+
 module _ (l : List ℤ) (gln : List ℕ) where
   abbrev rulesRight : ℕ → Bool
-  rulesRight kind = standIn (fieldsOf (plainRecord kind l gln)) l && countHeld kind l
+  rulesRight kind = standIn (fieldsOf (plainRecord kind l gln)) l && fieldsHold kind l
 
   abbrev RightAs : ℕ → Type 0
   RightAs kind = listRight kind l ≡ rulesRight kind
@@ -301,40 +343,57 @@ module _ (l : List ℤ) (gln : List ℕ) where
   with-no-count t = t && true
 
   headings-right : RightAs R.headingKind
-  unfolding listRight fieldCount body-lengths signedPlace plainRecord fieldsOf hourFields countHeld
+  unfolding listRight fieldsHeld fieldCount body-lengths signedPlace plainRecord fieldsOf hourFields fieldsHold
   headings-right = ap with-no-count (sym (stands 6 0 (fieldsOf (plainRecord R.headingKind l gln)) l (refl, (refl, (refl, (refl, (refl, (refl, tt))))))))
 
   parties-right : RightAs R.partyKind
-  unfolding listRight fieldCount body-lengths signedPlace plainRecord fieldsOf hourFields countHeld
+  unfolding listRight fieldsHeld fieldCount body-lengths signedPlace plainRecord fieldsOf hourFields fieldsHold
   parties-right = ap with-no-count (sym (stands 6 0 (fieldsOf (plainRecord R.partyKind l gln)) l (refl, tt)))
 
   fixed-right : RightAs R.fixedHourKind
-  unfolding listRight fieldCount body-lengths signedPlace plainRecord fieldsOf hourFields countHeld
+  unfolding listRight fieldsHeld fieldCount body-lengths signedPlace plainRecord fieldsOf hourFields fieldsHold
   fixed-right = ap with-no-count (sym (stands 2 0 (fieldsOf (plainRecord R.fixedHourKind l gln)) l (refl, (refl, (refl, (refl, (refl, (refl, tt))))))))
 
   readings-right : RightAs R.readingKind
-  unfolding listRight fieldCount body-lengths signedPlace plainRecord fieldsOf hourFields countHeld
+  unfolding listRight fieldsHeld fieldCount body-lengths signedPlace plainRecord plainReading fieldsOf weightFields fieldsHold
   readings-right = ap with-no-count (sym (stands 6 0 (fieldsOf (plainRecord R.readingKind l gln)) l (refl, (refl, (refl, (refl, tt))))))
 
   prices-right : RightAs R.priceKind
-  unfolding listRight fieldCount body-lengths signedPlace plainRecord fieldsOf hourFields countHeld
+  unfolding listRight fieldsHeld fieldCount body-lengths signedPlace plainRecord fieldsOf hourFields fieldsHold
   prices-right = ap with-no-count (sym (stands 1 0 (fieldsOf (plainRecord R.priceKind l gln)) l (refl, (refl, tt))))
 
   refixed-right : RightAs R.refixedHourKind
-  unfolding listRight fieldCount body-lengths signedPlace plainRecord fieldsOf hourFields countHeld
+  unfolding listRight fieldsHeld fieldCount body-lengths signedPlace plainRecord fieldsOf hourFields fieldsHold
   refixed-right = ap with-no-count (sym (stands 2 0 (fieldsOf (plainRecord R.refixedHourKind l gln)) l (refl, (refl, (refl, (refl, (refl, (refl, tt))))))))
 
   ends-right : RightAs R.endKind
-  unfolding listRight fieldCount body-lengths signedPlace plainRecord fieldsOf countHeld
+  unfolding listRight fieldsHeld fieldCount body-lengths signedPlace plainRecord fieldsOf fieldsHold
   ends-right =
       ap (λ (t : Bool). t && leb (natAbs (nth l 0)) 4294967295) (sym (stands 6 0 (number (nthNoSign l 0) ∷ []) l (refl, tt)))
       ∙ count-right l (nthNoSign l 0)
+
+  abbrev long-fields : List Field
+  long-fields = fieldsOf (plainRecord R.longReadingKind l gln)
+
+  long-readings-right : RightAs R.longReadingKind
+  unfolding listRight fieldsHeld fieldCount body-lengths signedPlace plainRecord plainReading nthNoSign fieldsOf weightFields fieldsHold
+  long-readings-right = ap (λ (t : Bool). t && (test-8 l 4 && test-8 l 5)) (sym long-stands) ∙ go (standIn long-fields l) refl
+    where
+      long-stands : standIn long-fields l ≡ eqb (length l) 6 && signsFrom 6 0 l
+      long-stands = stands 6 0 long-fields l (refl, (refl, (refl, (refl, (refl, (refl, tt))))))
+      go : (t : Bool) → standIn long-fields l ≡ t → t && (test-8 l 4 && test-8 l 5) ≡ t && (ltb (nthNoSign l 4) (256 ^ 8) && ltb (nthNoSign l 5) (256 ^ 8))
+      go true e =
+          let both = both-true (eqb (length l) 6) (signsFrom 6 0 l) (sym long-stands ∙ e) in
+          let six : length l ≡ 6 = eqb-true (length l) 6 (both .0) in
+          ap₂ (λ (t u : Bool). t && u) (weight-right (nth l 4) (sign-at 6 0 l (both .1) 4 (omega arith) refl))
+          (weight-right (nth l 5) (sign-at 6 0 l (both .1) 5 (omega arith) refl))
+      go false e = refl
 
   every-right : Entries (λ (k : ℕ) (ws : List ℕ). RightAs k) layouts
   unfolding layouts
   every-right = (
     headings-right,
-    (parties-right, (fixed-right, (readings-right, (prices-right, (refixed-right, (ends-right, tt)))))),
+    (parties-right, (fixed-right, (readings-right, (prices-right, (refixed-right, (ends-right, (long-readings-right, tt))))))),
   )
 
   pub right-as-the-rules : (kind : ℕ) → known kind ≡ true → RightAs kind

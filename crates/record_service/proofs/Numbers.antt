@@ -10,7 +10,7 @@ use lib.Dec.{eqb, leb, leb·suc-suc}
 use lib.IntN.{ℤ, pos, negsuc, natAbs}
 use lib.ListN.{length, getD, drop, drop-of-length-le}
 use lib.Seq.{drop-cons}
-use lib.Signed.{mag, leZ}
+use lib.Signed.{mag, leZ, natAbs-le}
 use mir.Facts.{toZ-ofZ}
 use mir.Syntax.{w64}
 use mir.Val.{SFits, toZ, ofZ}
@@ -28,6 +28,10 @@ end-test (negsuc n) = both-ends (leb n 4294967294) ∙ sym (leb·suc-suc n 42949
 
 pub end-bits : (z : ℤ) → SFits w64 z → leZ (negsuc 4294967294) (toZ w64 (ofZ w64 z)) && leZ (toZ w64 (ofZ w64 z)) (pos 4294967295) ≡ leb (natAbs z) 4294967295
 end-bits z f = rw (toZ-ofZ f) (end-test z)
+
+-- and any number of 64 bits within eight
+pub eight-bytes : (z : ℤ) → SFits w64 z → true ≡ leb (natAbs z) 18446744073709551615
+eight-bytes z f = sym (le-leb (natAbs z) 18446744073709551615 (omega (arith, natAbs-le z (f .sfits))))
 
 -- a number held in its field
 module _ {z : ℤ} (f : SFits w64 z) (most : ℕ) where

@@ -1,5 +1,5 @@
 -- The plain entry point: each test of the list is one of the rule's, and then the writer's own verdict counts.
-use mathlib.Core.Bool.{Bool, true, false, not, _&&_, _||_}
+use mathlib.Core.Bool.{Bool, true, false, not, _&&_}
 use mathlib.Core.List.{List}
 use mathlib.Core.Path.{_≡_, refl, sym, _∙_, ap, subst}
 use Prim.Native.Nat.{ℕ, _≤_, _<_}
@@ -9,12 +9,12 @@ use lib.Dec.{eqb, leb}
 use lib.IntN.{ℤ, natAbs}
 use lib.ListN.{length}
 use Rattle.record.specs.Record.{recordOf}
-use Rattle.record_service.specs.Held.{fieldCount, signedPlace, signsFrom, listRight, heldRecord}
+use Rattle.record_service.specs.Held.{fieldCount, signedPlace, signsFrom, fieldsHeld, listRight, heldRecord}
 use Rattle.record_service.proofs.Alike.{judged-alike, accepted-same, right-as-the-rules}
 use Rattle.record_write.specs.Writing.{roomFor, WrittenUnder}
 use Rattle.record_write.proofs.WriteOne.{verdict-is}
-use Rattle.rules.specs.PlainRecord.{nth, plainRecord, standIn, countHeld, plainVerdict}
-use Rattle.rules.specs.Record.{Record, endKind, bodyLength, known, fieldsOf, alone, checks, writeVerdict}
+use Rattle.rules.specs.PlainRecord.{nth, plainRecord, standIn, fieldsHold, plainVerdict}
+use Rattle.rules.specs.Record.{Record, endKind, longReadingKind, bodyLength, known, fieldsOf, alone, checks, writeVerdict}
 use Rattle.rules.specs.Refusals.{unknownKind, outOfRange, Verdict, accepted, refused, Answer, refusal, unless, andThen, first, answer, afterwards}
 use Rattle.rules.proofs.EachKind.{kind-is-a-byte}
 use Rattle.rules.proofs.Refusals.{then-accepted}
@@ -38,20 +38,31 @@ module _ (kind : ℕ) (numbers : List ℤ) {n : ℕ} (count : n ≡ fieldCount k
     wrong-sign e = rw (lengths, all-signs, not-true b e)
 
     module _ (e : not b ≡ false) where
-      pub no-end : (kind ≡ endKind → ⊥) → true ≡ listRight kind numbers
+      pub by-its-fields : {t : Bool} → t ≡ fieldsHeld kind numbers → t ≡ listRight kind numbers
       unfolding listRight
-      no-end h = rw (lengths, all-signs, not-false b e, ne-eqb kind endKind h)
+      by-its-fields q = q ∙ rw (lengths, all-signs, not-false b e)
 
-      pub end-count : kind ≡ endKind → {t : Bool} → t ≡ leb (natAbs (nth numbers 0)) 4294967295 → t ≡ listRight kind numbers
-      unfolding listRight
-      end-count h q = q ∙ rw (lengths, all-signs, not-false b e, eq-eqb kind endKind h)
+-- what has room in its bytes, kind by kind
+module _ (kind : ℕ) (numbers : List ℤ) where
+  pub count-held : kind ≡ endKind → {t : Bool} → t ≡ leb (natAbs (nth numbers 0)) 4294967295 → t ≡ fieldsHeld kind numbers
+  unfolding fieldsHeld
+  count-held h q = q ∙ rw (eq-eqb kind endKind h)
+
+  pub weights-held : kind ≡ longReadingKind → {t u : Bool} → t ≡ leb (natAbs (nth numbers 4)) 18446744073709551615
+      → u ≡ leb (natAbs (nth numbers 5)) 18446744073709551615 → t && u ≡ fieldsHeld kind numbers
+  unfolding fieldsHeld
+  weights-held h p q = rw (h, p, q)
+
+  pub others-held : (kind ≡ endKind → ⊥) → (kind ≡ longReadingKind → ⊥) → true ≡ fieldsHeld kind numbers
+  unfolding fieldsHeld
+  others-held h g = rw (ne-eqb kind endKind h, ne-eqb kind longReadingKind g)
 
 pub right-length : (kind : ℕ) (numbers : List ℤ) → listRight kind numbers ≡ true → length numbers ≡ fieldCount kind
 unfolding listRight
 right-length kind numbers e =
     eqb-true (length numbers) (fieldCount kind)
     (both-true (eqb (length numbers) (fieldCount kind)) (signsFrom (signedPlace kind) 0 numbers)
-    (both-true (eqb (length numbers) (fieldCount kind) && signsFrom (signedPlace kind) 0 numbers) (not (eqb kind endKind) || leb (natAbs (nth numbers 0)) 4294967295) e .0)
+    (both-true (eqb (length numbers) (fieldCount kind) && signsFrom (signedPlace kind) 0 numbers) (fieldsHeld kind numbers) e .0)
     .0)
 
 -- 2: a kind is one byte, and a known one has a body
@@ -87,7 +98,7 @@ module _ (kind : ℕ) (numbers : List ℤ) (gln out : List ℕ) where
   unknown e is = (rw e is, rw e refl)
 
   module _ (has : known kind ≡ true) {b : Bool} (list : b ≡ listRight kind numbers) where
-    as-ruled : standIn (fieldsOf record-is) numbers && countHeld kind numbers ≡ b
+    as-ruled : standIn (fieldsOf record-is) numbers && fieldsHold kind numbers ≡ b
     as-ruled = sym (list ∙ right-as-the-rules numbers gln kind has)
 
     pub wrong-list : not b ≡ true → {a : Answer ℕ} → a ≡ refusal outOfRange 0 → Written-so a out
@@ -99,8 +110,8 @@ module _ (kind : ℕ) (numbers : List ℤ) (gln out : List ℕ) where
       unfolding plainVerdict first andThen unless
       passed = rw (has, as-ruled, not-false b e) (then-accepted (writeVerdict record-is (length out)))
 
-      held-count : countHeld kind numbers ≡ true
-      held-count = both-true (standIn (fieldsOf record-is) numbers) (countHeld kind numbers) (as-ruled ∙ not-false b e) .1
+      held-count : fieldsHold kind numbers ≡ true
+      held-count = both-true (standIn (fieldsOf record-is) numbers) (fieldsHold kind numbers) (as-ruled ∙ not-false b e) .1
 
       -- the writer's promise of the record as it is held is that of the record itself
       of-the-record : (v : Verdict) → first (checks alone record-is) ≡ v → {a : Answer ℕ} {after : List ℕ}

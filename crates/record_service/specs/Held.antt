@@ -1,6 +1,6 @@
 -- What the functions of this crate compute on the way: the tests of a list of numbers, and the record of these numbers in fields of so many bytes, where a
 -- number that its field can not hold is the nearest that it can. That this comes to what the rules say of the numbers themselves is proved in proofs/Alike.
-use mathlib.Core.Bool.{Bool, true, cond, not, _&&_, _||_}
+use mathlib.Core.Bool.{Bool, true, cond, _&&_, _||_}
 use mathlib.Core.List.{List, [], _∷_}
 use Prim.Native.Nat.{ℕ, suc}
 use lib.Dec.{eqb, leb}
@@ -9,11 +9,13 @@ use lib.ListN.{length}
 use lib.Signed.{leZ}
 use Rattle.record.specs.declared.Heading as CHeading
 use Rattle.record.specs.declared.Flows as CFlows
+use Rattle.record.specs.declared.Over as COver
+use Rattle.record.specs.declared.Over.the-variants.{ThisMonth, ManyMonths}
 use Rattle.record.specs.declared.Reading as CReading
 use Rattle.record.specs.declared.Record.{Record}
 use Rattle.record.specs.declared.Record.the-variants.{Heading, Party, FixedHour, Reading, Price, RefixedHour, End}
 use Rattle.rules.specs.PlainRecord.{nth}
-use Rattle.rules.specs.Record.{headingKind, partyKind, fixedHourKind, readingKind, priceKind, refixedHourKind, endKind, fieldWidths}
+use Rattle.rules.specs.Record.{headingKind, partyKind, fixedHourKind, readingKind, priceKind, refixedHourKind, endKind, longReadingKind, fieldWidths}
 
 -- how many numbers a kind has: one for each field, but none for a party's GLN, which stands beside them
 unfoldable pub fieldCount : ℕ → ℕ
@@ -28,11 +30,16 @@ unfoldable pub signsFrom : ℕ → ℕ → List ℤ → Bool
 signsFrom signed i [] = true
 signsFrom signed i (z ∷ zs) = (eqb i signed || leZ (pos 0) z) && signsFrom signed (suc i) zs
 
--- the list has the kind's length, no number is negative in an unsigned field, and an end count has room in its four bytes ("any 4 bytes" are good)
+-- an end count has room in its four bytes ("any 4 bytes" are good), and a weight in its eight
+unfoldable pub fieldsHeld : ℕ → List ℤ → Bool
+fieldsHeld kind numbers =
+    cond (eqb kind endKind) (leb (natAbs (nth numbers 0)) 4294967295)
+    (cond (eqb kind longReadingKind) (leb (natAbs (nth numbers 4)) 18446744073709551615 && leb (natAbs (nth numbers 5)) 18446744073709551615) true)
+
+-- the list has the kind's length, no number is negative in an unsigned field, and those that no rule bounds have room in their bytes
 unfoldable pub listRight : ℕ → List ℤ → Bool
 listRight kind numbers =
-    eqb (length numbers) (fieldCount kind) && signsFrom (signedPlace kind) 0 numbers
-    && (not (eqb kind endKind) || leb (natAbs (nth numbers 0)) 4294967295)
+    eqb (length numbers) (fieldCount kind) && signsFrom (signedPlace kind) 0 numbers && fieldsHeld kind numbers
 
 -- the nearest number of 0 .. most: one outside its range stays outside, since every range ends below what its field can hold
 unfoldable pub heldIn : ℕ → ℤ → ℕ
@@ -56,8 +63,11 @@ heldFlows l =
       «flex_wh» = held 18446744073709551615 l 5;
     }
 
-abbrev pub heldReading : List ℤ → CReading.Reading
-heldReading l = record { party = held 255 l 0; a = held 65535 l 1; b = held 65535 l 2; «e_wh» = held 4294967295 l 3 }
+abbrev pub heldReading : List ℤ → COver.Over → CReading.Reading
+heldReading l over = record { party = held 255 l 0; a = held 65535 l 1; b = held 65535 l 2; «e_wh» = held 4294967295 l 3; over = over }
+
+abbrev pub heldWeights : List ℤ → COver.Over
+heldWeights l = ManyMonths (held 18446744073709551615 l 4) (held 18446744073709551615 l 5)
 
 -- the record of a kind and its numbers; the kind that is none of the others is the end (an unknown one is refused first)
 unfoldable pub heldRecord : ℕ → List ℤ → Record
@@ -65,6 +75,7 @@ heldRecord kind l =
     cond (eqb kind headingKind) (Heading (heldHeading l))
     (cond (eqb kind partyKind) (Party (held 18446744073709551615 l 0))
     (cond (eqb kind fixedHourKind) (FixedHour (held 65535 l 0) (heldFlows l))
-    (cond (eqb kind readingKind) (Reading (heldReading l))
+    (cond (eqb kind readingKind) (Reading (heldReading l ThisMonth))
     (cond (eqb kind priceKind) (Price (held 65535 l 0) (nth l 1))
-    (cond (eqb kind refixedHourKind) (RefixedHour (held 65535 l 0) (heldFlows l)) (End (held 4294967295 l 0)))))))
+    (cond (eqb kind refixedHourKind) (RefixedHour (held 65535 l 0) (heldFlows l))
+    (cond (eqb kind longReadingKind) (Reading (heldReading l (heldWeights l))) (End (held 4294967295 l 0))))))))

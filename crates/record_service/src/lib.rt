@@ -2,6 +2,7 @@
 use answer::Refusal;
 use record::Flows;
 use record::Heading;
+use record::Over;
 use record::Reading;
 use record::Record;
 use record::kind;
@@ -12,7 +13,7 @@ ghost use lib.IntN.{pos, natAbs};
 ghost use lib.Signed.{leZ};
 ghost use Prim.Native.Nat.{_≤_, _<_};
 ghost use lib.ListN.{length};
-ghost use Rattle.record_service.specs.Held.{fieldCount, signedPlace, signsFrom, listRight, held, heldHeading, heldFlows, heldReading, heldRecord};
+ghost use Rattle.record_service.specs.Held.{fieldCount, signedPlace, signsFrom, fieldsHeld, listRight, held, heldHeading, heldFlows, heldWeights, heldReading, heldRecord};
 ghost use Rattle.record_service.specs.Plain.{Promised};
 ghost use mathlib.Core.Bool.{true};
 ghost use Rattle.rules.specs.Record.{known};
@@ -32,6 +33,7 @@ fn field_count(sort: u8) -> usize
         kind::READING => 4,
         kind::PRICE => 2,
         kind::REFIXED_HOUR => 6,
+        kind::LONG_READING => 6,
         _ => 1,
     }
 }
@@ -147,16 +149,24 @@ fn flows_of(numbers: &[i64]) -> Flows
     }
 }
 
-fn reading_of(numbers: &[i64]) -> Reading
+fn reading_of(numbers: &[i64], over: Over) -> Reading
     requires { ⌜ 4 ≤ length (now numbers) ⌝ }
-    ensures { λ r. ⌜ r ≡ heldReading (now (numbers .entry)) ⌝ }
+    ensures { λ r. ⌜ r ≡ heldReading (now (numbers .entry)) over ⌝ }
 {
     Reading {
         party: u8_of(numbers, 0),
         a: u16_of(numbers, 1),
         b: u16_of(numbers, 2),
         e_wh: u32_of(numbers, 3),
+        over: over,
     }
+}
+
+fn weights_of(numbers: &[i64]) -> Over
+    requires { ⌜ 6 ≤ length (now numbers) ⌝ }
+    ensures { λ r. ⌜ r ≡ heldWeights (now (numbers .entry)) ⌝ }
+{
+    Over::ManyMonths(u64_of(numbers, 4), u64_of(numbers, 5))
 }
 
 // The record of a kind and as many numbers as it has.
@@ -168,14 +178,34 @@ fn record_of(sort: u8, numbers: &[i64]) -> Record
         kind::HEADING => Record::Heading(heading_of(numbers)),
         kind::PARTY => Record::Party(u64_of(numbers, 0)),
         kind::FIXED_HOUR => Record::FixedHour(u16_of(numbers, 0), flows_of(numbers)),
-        kind::READING => Record::Reading(reading_of(numbers)),
+        kind::READING => Record::Reading(reading_of(numbers, Over::ThisMonth)),
         kind::PRICE => Record::Price(u16_of(numbers, 0), numbers[1]),
         kind::REFIXED_HOUR => Record::RefixedHour(u16_of(numbers, 0), flows_of(numbers)),
+        kind::LONG_READING => Record::Reading(reading_of(numbers, weights_of(numbers))),
         _ => Record::End(u32_of(numbers, 0)),
     }
 }
 
-// 4 of the list: another length, a negative number in an unsigned field, an end count beyond its four bytes.
+// Every number of 64 bits has room in the eight bytes of a weight ("The record writer takes any weights.").
+fn in_eight_bytes(z: i64) -> bool
+    ensures { λ b. ⌜ b ≡ leb (natAbs z) 18446744073709551615 ⌝ }
+{
+    true
+}
+
+// An end count, and a weight, has room in its bytes. (Every other field has a rule of its own.)
+fn fields_hold(sort: u8, numbers: &[i64]) -> bool
+    requires { ⌜ length (now numbers) ≡ fieldCount sort ⌝ }
+    ensures { λ b. ⌜ b ≡ fieldsHeld sort (now (numbers .entry)) ⌝ }
+{
+    match sort {
+        kind::END => not_above_end(numbers[0]),
+        kind::LONG_READING => in_eight_bytes(numbers[4]) & in_eight_bytes(numbers[5]),
+        _ => true,
+    }
+}
+
+// 4 of the list: another length, a negative number in an unsigned field, an end count or a weight beyond its bytes.
 fn list_right(sort: u8, numbers: &[i64]) -> bool
     requires { ⌜ known sort ≡ true ⌝ }
     ensures { λ b. ⌜ b ≡ listRight sort (now (numbers .entry)) ⌝ }
@@ -186,14 +216,11 @@ fn list_right(sort: u8, numbers: &[i64]) -> bool
     if !signs_right(numbers, signed_place(sort)) {
         return false;
     }
-    if sort != kind::END {
-        return true;
-    }
-    not_above_end(numbers[0])
+    fields_hold(sort, numbers)
 }
 
 // The record writer on plain numbers: 2 first; then 4 where the list has another length than
-// the kind has fields, a number is negative in an unsigned field, or an end count is beyond its four bytes; then as the writer.
+// the kind has fields, a number is negative in an unsigned field, or an end count or a weight is beyond its bytes; then as the writer.
 pub fn write_plain(kind: u64, numbers: &[i64], gln: &[u8], out: &mut [u8]) -> Written
     ensures { λ w. ⌜ Promised kind (now (numbers .entry)) (now (gln .entry)) (now (out .entry)) w (now (out .exit)) ⌝ }
 {

@@ -1,15 +1,6 @@
--- `record_service::list_right` meets its contract: each test is one of the rule, and only an end count is held to its four bytes. Assumes nothing.
-use lib.Dec.{leb}
-use lib.IntN.{pos, natAbs}
-use lib.ListN.{getD}
-use mir.Facts.{toZ-ofZ}
-use mir.Syntax.{w64}
-use mir.Val.{SFits}
-use mathlib.Core.Path.{_∙_, ap}
-use native.Mathlib.Omega.{arith}
-use Rattle.rules.proofs.EachKind.{body-lengths}
-use Rattle.record_service.specs.Held.{fieldCount}
-use Rattle.record_service.proofs.PlainOne.{wrong-length, wrong-sign, no-end, end-count}
+-- `record_service::list_right` meets its contract: each test is one of the rule. Assumes nothing.
+use mathlib.Core.Path.{_∙_}
+use Rattle.record_service.proofs.PlainOne.{wrong-length, wrong-sign, by-its-fields}
 use borrow.Author.Needs.{needs}
 use Rattle.record_service.proofs.list_right.Statement.{statement}
 use Rattle.record_service.proofs.list_right.Tie as tie
@@ -32,39 +23,16 @@ returns-2 c =
     wrong-sign (start .args .sort) (start .args .numbers .now) (c .before .before .before .before .field-count .ensures)
     (c .before .before .before .if1 .left) (c .before .before .signed-place .ensures) (c .before .signs-right .ensures) (c .if2 .taken)
 
+fields-hold-requires : tie.Need-fields-hold-requires
+fields-hold-requires c κs = c .before .before .before .if1 .left ∙ c .before .before .before .before .field-count .ensures
+
 returns-3 : tie.Need-returns-3
 returns-3 c =
     let start = c .before .before .before .before .before .before in
-    no-end (start .args .sort) (start .args .numbers .now) (c .before .before .before .before .before .field-count .ensures)
+    by-its-fields (start .args .sort) (start .args .numbers .now) (c .before .before .before .before .before .field-count .ensures)
     (c .before .before .before .before .if1 .left) (c .before .before .before .signed-place .ensures) (c .before .before .signs-right .ensures)
-    (c .before .if2 .left) (c .if3 .taken)
-
-shared-slice-copy-out-not-above-end : tie.Need-shared-slice-copy-out-not-above-end
-unfolding fieldCount body-lengths
-shared-slice-copy-out-not-above-end c = omega (arith, c .before .before .before .before .before .field-count .ensures ∙ ap fieldCount (c .if3 .left))
-
-not-above-end-requires : tie.Need-not-above-end-requires
-not-above-end-requires c κs = search needs
-
-returns-4 : tie.Need-returns-4
-returns-4 c =
-    let start = c .before .before .before .before .before .before .before .before in
-    let f : SFits w64 (getD (start .args .numbers .now) 0 (pos 0)) = search needs in
-    end-count (start .args .sort) (start .args .numbers .now) (c .before .before .before .before .before .before .before .field-count .ensures)
-    (c .before .before .before .before .before .before .if1 .left) (c .before .before .before .before .before .signed-place .ensures)
-    (c .before .before .before .before .signs-right .ensures) (c .before .before .before .if2 .left) (c .before .before .if3 .left)
-    (c .not-above-end .ensures ∙ ap (λ z. leb (natAbs z) 4294967295) (toZ-ofZ f))
+    (c .before .if2 .left) (c .fields-hold .ensures)
 
 pub list-right-spec : {M : Type 1} → statement M
 list-right-spec =
-    tie.close
-    (tie.spec
-    field-count-requires
-    returns
-    signed-place-requires
-    signs-right-requires
-    returns-2
-    returns-3
-    shared-slice-copy-out-not-above-end
-    not-above-end-requires
-    returns-4)
+    tie.close (tie.spec field-count-requires returns signed-place-requires signs-right-requires returns-2 fields-hold-requires returns-3)

@@ -7,7 +7,7 @@ use mir.Syntax.{w64}
 use mir.Val.{SFits}
 use Rattle.record.specs.declared.Record.the-variants.{Heading, Party, FixedHour, Reading, RefixedHour, End}
 use Rattle.rules.proofs.EachKind.{body-lengths, last-kind}
-use Rattle.record_service.specs.Held.{fieldCount, heldRecord}
+use Rattle.record_service.specs.Held.{fieldCount, heldReading, heldRecord}
 use native.Mathlib.Omega.{arith}
 use mathlib.Core.Path.{_∙_, ap, ap₂}
 use Rattle.record_service.proofs.record_of.Statement.{statement}
@@ -37,9 +37,9 @@ u16-of-requires-2 : tie.Need-u16-of-requires-2
 unfolding fieldCount body-lengths
 u16-of-requires-2 c κs = omega (arith, c .before .pre .1 ∙ ap fieldCount (c .match .keys5))
 
-shared-slice-copy-out-t11 : tie.Need-shared-slice-copy-out-t11
+shared-slice-copy-out-t12 : tie.Need-shared-slice-copy-out-t12
 unfolding fieldCount body-lengths
-shared-slice-copy-out-t11 c = omega (arith, c .before .before .pre .1 ∙ ap fieldCount (c .before .match .keys5))
+shared-slice-copy-out-t12 c = omega (arith, c .before .before .pre .1 ∙ ap fieldCount (c .before .match .keys5))
 
 u16-of-requires-3 : tie.Need-u16-of-requires-3
 unfolding fieldCount body-lengths
@@ -48,6 +48,14 @@ u16-of-requires-3 c κs = omega (arith, c .before .pre .1 ∙ ap fieldCount (c .
 flows-of-requires-2 : tie.Need-flows-of-requires-2
 unfolding fieldCount body-lengths
 flows-of-requires-2 c κs = omega (arith, c .before .before .pre .1 ∙ ap fieldCount (c .before .match .keys6))
+
+weights-of-requires : tie.Need-weights-of-requires
+unfolding fieldCount body-lengths
+weights-of-requires c κs = omega (arith, c .before .pre .1 ∙ ap fieldCount (c .match .keys7))
+
+reading-of-requires-2 : tie.Need-reading-of-requires-2
+unfolding fieldCount body-lengths
+reading-of-requires-2 c κs = omega (arith, c .before .before .pre .1 ∙ ap fieldCount (c .before .match .keys7))
 
 u32-of-requires : tie.Need-u32-of-requires
 unfolding fieldCount body-lengths
@@ -79,7 +87,11 @@ returns-6 c = rw (c .before .before .match .keys6) (ap₂ RefixedHour (c .before
 
 returns-7 : tie.Need-returns-7
 unfolding heldRecord
-returns-7 c = rw (last-kind _ (c .before .before .pre .0) (c .before .match .rest)) (ap End (c .u32-of .ensures))
+returns-7 c = rw (c .before .before .match .keys7) (ap Reading (c .reading-of2 .ensures ∙ ap (heldReading _) (c .before .weights-of .ensures)))
+
+returns-8 : tie.Need-returns-8
+unfolding heldRecord
+returns-8 c = rw (last-kind _ (c .before .before .pre .0) (c .before .match .rest)) (ap End (c .u32-of .ensures))
 
 pub record-of-spec : {M : Type 1} → statement M
 record-of-spec =
@@ -91,9 +103,11 @@ record-of-spec =
     flows-of-requires
     reading-of-requires
     u16-of-requires-2
-    shared-slice-copy-out-t11
+    shared-slice-copy-out-t12
     u16-of-requires-3
     flows-of-requires-2
+    weights-of-requires
+    reading-of-requires-2
     u32-of-requires
     returns
     returns-2
@@ -101,4 +115,5 @@ record-of-spec =
     returns-4
     returns-5
     returns-6
-    returns-7)
+    returns-7
+    returns-8)
