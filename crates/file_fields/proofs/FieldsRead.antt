@@ -8,16 +8,15 @@ use borrow.Author.Tests.{eqb-true}
 use lib.Dec.{eqb}
 use lib.IntN.{ℤ}
 use lib.ListN.{length}
-use Rattle.record.specs.Record.{flowsOf, readingOf}
+use Rattle.record.specs.Record.{flowsOf}
 use Rattle.record.specs.declared.Flows as CFlows
-use Rattle.record.specs.declared.Reading as CReading
 use Rattle.file_sections.specs.declared.Sections.{Sections}
 use Rattle.file_sections.specs.Walk.{Accepted}
 use Rattle.file_sections.proofs.AcceptedFile.{read-as, month-whole}
-use Rattle.file_fields.specs.Fields.{FixedIs, RefixedIs, PriceIs, ReadingIs, ShareIs, GlnIs}
+use Rattle.file_fields.specs.Fields.{FixedIs, RefixedIs, PriceIs, ShareIs, GlnIs}
 use Rattle.rules.specs.Gln.{allDigits, weightedSum, validGln}
 use Rattle.rules.specs.Limits.{glnDigits}
-use Rattle.rules.specs.Month.{monthOf, flowsAt, partyAt, priceAt, readingAt, shareOf}
+use Rattle.rules.specs.Month.{monthOf, flowsAt, partyAt, priceAt, shareOf}
 use Rattle.rules.specs.MonthFile.{P}
 use Rattle.rules.specs.Setting.{provisional}
 use Rattle.rules.proofs.Whole.{every-at, PartyRight, both-pass}
@@ -38,9 +37,6 @@ module _ (file : List ℕ) (s : Sections) (ok : Accepted file s) where
 
   pub price-read : {t : ℕ} {z : ℤ} → PriceIs file t z → z ≡ priceAt (monthOf file) t
   price-read p = p .is provisional (monthOf file) (read-as file s ok provisional)
-
-  pub reading-read : {j : ℕ} {x : CReading.Reading} → ReadingIs file j x → readingOf x ≡ readingAt (monthOf file) j
-  reading-read p = p .is provisional (monthOf file) (read-as file s ok provisional)
 
   pub share-read : {i n : ℕ} → ShareIs file i n → n ≡ shareOf (monthOf file) i
   share-read p = p .is provisional (monthOf file) (read-as file s ok provisional)

@@ -2,10 +2,11 @@
 -- that byte, so what is cut out of the bytes there, by the widths of that kind, is the record.
 use mathlib.Core.List.{List}
 use mathlib.Core.Path.{_≡_, sym, _∙_, ap}
-use Prim.Native.Nat.{ℕ}
+use Prim.Native.Nat.{ℕ, _-_}
 use native.Mathlib.Omega.{arith}
 use lib.IntN.{ℤ}
 use lib.ListN.{length, take, drop, length-drop}
+use lib.Seq.{take-all}
 use Rattle.record.specs.Record.{recordAs, flowsAt, glnBytes}
 use Rattle.record.proofs.Decoding as D
 use Rattle.rules.specs.Flows.{Flows}
@@ -20,14 +21,22 @@ priceIn bytes = R.signed 4 (R.numberOnto 0 (take 4 (drop 3 bytes)))
 abbrev pub shareIn : List ℕ → ℕ
 shareIn bytes = R.numberOnto 0 (take 8 (drop 14 bytes))
 
+-- the rest of a file, as a slice to its end is cut
+pub from-there : (file : List ℕ) (offset : ℕ) → take (length file - offset) (drop offset file) ≡ drop offset file
+from-there file offset = take-all (length file - offset) (drop offset file) (omega (arith, length-drop offset file))
+
 module _ {file : List ℕ} {offset : ℕ} where
+  -- the kind of the record that stands there
+  pub kind-there : {r : R.Record} → Standing file offset r → R.kindAt (drop offset file) ≡ R.kindOf r
+  unfolding R.recordAt
+  kind-there {r} st =
+      let fields : List (List ℕ) = R.cutInto (R.fieldWidths (R.kindAt (drop offset file))) (drop 1 (drop offset file)) in
+      sym (kind-of-record (R.kindAt (drop offset file)) fields (st .known-kind)) ∙ ap R.kindOf (st .is)
+
   -- the record, by its kind
   there : {r : R.Record} → Standing file offset r → recordAs (R.kindOf r) (drop offset file) ≡ r
   unfolding recordAs R.recordAt
-  there {r} st =
-      let fields : List (List ℕ) = R.cutInto (R.fieldWidths (R.kindAt (drop offset file))) (drop 1 (drop offset file)) in
-      let kind : R.kindAt (drop offset file) ≡ R.kindOf r = sym (kind-of-record (R.kindAt (drop offset file)) fields (st .known-kind)) ∙ ap R.kindOf (st .is) in
-      ap (λ (k : ℕ). R.recordFrom k (R.cutInto (R.fieldWidths k) (drop 1 (drop offset file)))) (sym kind) ∙ st .is
+  there {r} st = ap (λ (k : ℕ). R.recordFrom k (R.cutInto (R.fieldWidths k) (drop 1 (drop offset file)))) (sym (kind-there st)) ∙ st .is
 
   pub fixed-there : {t : ℕ} {x : Flows} → Standing file offset (R.fixedHour t x) → flowsAt (drop offset file) ≡ x
   fixed-there st = let e = D.fixed-is (drop offset file) ∙ there st in cc
@@ -37,9 +46,6 @@ module _ {file : List ℕ} {offset : ℕ} where
 
   pub price-there : {t : ℕ} {z : ℤ} → Standing file offset (R.price t z) → priceIn (drop offset file) ≡ z
   price-there st = let e = D.price-is (drop offset file) (omega (arith, st .fits, length-drop offset file)) ∙ there st in cc
-
-  pub reading-there : {x : R.Reading} → Standing file offset (R.reading x) → recordAs R.readingKind (drop offset file) ≡ R.reading x
-  reading-there st = there st
 
   party-there : {p : R.Party} → Standing file offset (R.party p) → record { gln = glnBytes (drop offset file); share = shareIn (drop offset file) } ≡ p
   party-there st = let e = D.party-is (drop offset file) (omega (arith, st .fits, length-drop offset file)) ∙ there st in cc

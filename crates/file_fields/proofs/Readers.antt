@@ -1,27 +1,30 @@
 -- The readers of an accepted file's fields: the month that the file is read as has its records at their places (`Places` of the rules), so what is read at a
 -- place is what stands in the month.
 use mathlib.Core.List.{List, []}
-use mathlib.Core.Path.{_≡_, _∙_, ap, subst}
-use Prim.Native.Nat.{ℕ, _+_, _*_, _≤_, _<_}
+use mathlib.Core.Logic.{_⊎_, inl, inr, ⊎-elim}
+use mathlib.Core.Path.{_≡_, sym, _∙_, ap, subst}
+use Prim.Native.Nat.{ℕ, suc, _+_, _*_, _≤_, _<_}
 use native.Mathlib.Omega.{arith}
 use lib.IntN.{ℤ, pos}
-use lib.ListN.{length, drop, length-drop}
+use lib.ListN.{length, getD, drop, length-drop}
 use Rattle.gln.specs.Gln.{glnPart}
-use Rattle.record.specs.Record.{glnBytes, flowsOf, readingOf, recordAs}
+use Rattle.record.specs.Record.{glnBytes, flowsOf, overOf, readingOf, recordAs}
 use Rattle.record.specs.Record as C
 use Rattle.record.specs.declared.Flows as CFlows
 use Rattle.record.specs.declared.Reading as CReading
 use Rattle.file_sections.specs.declared.Sections.{Sections}
 use Rattle.file_sections.specs.Walk.{sectionsOf, Accepted}
 use Rattle.file_sections.proofs.AcceptedFile.{month-of, read-as, month-whole, sections-are, hours-are, parties-are, refixed-are, readings-are}
-use Rattle.file_fields.specs.Fields.{FixedAsked, RefixedAsked, PriceAsked, ReadingAsked, PartyAsked, FixedIs, RefixedIs, PriceIs, ReadingIs, ShareIs, GlnIs}
-use Rattle.file_fields.proofs.OneRecord.{priceIn, shareIn, fixed-there, refixed-there, price-there, reading-there, share-there, gln-there}
+use Rattle.file_fields.specs.Fields.{FixedAsked, RefixedAsked, PriceAsked, ReadingAsked, ReadingPlaced, PartyAsked, FixedIs, RefixedIs, PriceIs, ReadingIs, ShareIs, GlnIs}
+use Rattle.file_fields.proofs.OneRecord.{priceIn, shareIn, kind-there, fixed-there, refixed-there, price-there, share-there, gln-there}
 use Rattle.rules.specs.Month.{monthOf, flowsAt, partyAt, priceAt, readingAt, shareOf}
 use Rattle.rules.specs.MonthFile.{MonthFile, H, P, readMonth}
 use Rattle.rules.specs.Setting.{Setting, provisional}
 use Rattle.rules.specs.Record as R
 use Rattle.rules.specs.Refusals.{given}
-use Rattle.rules.proofs.Places.{Standing, Placed, what-is-read-is-placed}
+use Rattle.rules.specs.Words.{at, sum}
+use Rattle.rules.proofs.EachKind.{body-lengths, lengthOf, lengths-are}
+use Rattle.rules.proofs.Places.{Standing, Placed, readingSize, sizesBefore, what-is-read-is-placed}
 use Rattle.rules.proofs.Whole as W
 
 -- Where the records of an accepted file stand, by its sections.
@@ -68,11 +71,11 @@ module _ (file : List ℕ) (s : Sections) (ok : Accepted file s) where
   unfolding priceAt
   price-stands t b = moved (omega (arith, starts .3)) (placed .prices t (omega (arith, hours-are file s ok, whole .all-prices)) (pos 0))
 
-  pub reading-stands : (j : ℕ) → j < s .readings → Standing file (s .«readings_at» + 10 * j) (R.reading (readingAt m j))
+  pub reading-stands : (j : ℕ) → j < s .readings → Standing file (s .«readings_at» + sizesBefore (m .readings) j) (R.reading (readingAt m j))
   unfolding readingAt
   reading-stands j b =
       moved (omega (arith, starts .4))
-      (placed .readings j (omega (arith, readings-are file s ok)) (record { party = 0; a = 0; b = 0; e = 0 }))
+      (placed .readings j (omega (arith, readings-are file s ok)) (record { party = 0; a = 0; b = 0; e = 0; over = R.thisMonth }))
 
   party-stands : (i : ℕ) → i < s .heading .parties → Standing file (s .«parties_at» + 22 * i) (R.party (partyAt m i))
   unfolding partyAt
@@ -129,22 +132,43 @@ module _ (file : List ℕ) (s : Sections) where
     pub price-is : {z : ℤ} {part : List ℕ} → z ≡ priceIn part → part ≡ drop (s .«prices_at» + 7 * t) file → PriceIs file t z
     price-is {z} e p = record { is = said-of (λ m. z ≡ priceAt m t) (e ∙ ap priceIn p ∙ price-there price-here) }
 
-  module _ (j : ℕ) (a : ReadingAsked file s j) where
-    reading-here : Standing file (s .«readings_at» + 10 * j) (R.reading (readingAt (monthOf file) j))
-    reading-here = reading-stands file s (a .accepted) j (a .number)
+  module _ (j place : ℕ) (p : ReadingPlaced file s j place) where
+    reading-here : Standing file place (R.reading (readingAt (monthOf file) j))
+    reading-here = subst (λ (o : ℕ). Standing file o (R.reading (readingAt (monthOf file) j))) (sym (p .is)) (reading-stands file s (p .accepted) j (p .number))
 
-    pub reading-room : s .«readings_at» + 10 * j + 10 ≤ length file
-    reading-room = omega (arith, reading-here .fits)
+    its-kind : (over : R.Over) → R.kindAt (drop place file) ≡ R.readingKindOf over
+        → (R.kindAt (drop place file) ≡ R.readingKind) ⊎ (R.kindAt (drop place file) ≡ R.longReadingKind)
+    its-kind R.thisMonth e = inl e
+    its-kind (R.manyMonths before whole) e = inr e
 
-    pub reading-enough : {part : List ℕ} → part ≡ drop (s .«readings_at» + 10 * j) file → 10 ≤ length part
-    reading-enough p = enough file (s .«readings_at» + 10 * j) 10 p reading-room
+    -- what stands at its place is the reading, whole
+    pub reading-asked : ReadingAsked file place
+    reading-asked =
+        let kind = kind-there reading-here in
+        let size : R.bodyLength (R.kindAt (drop place file)) ≡ lengthOf (R.reading (readingAt (monthOf file) j)) = ap R.bodyLength kind ∙ lengths-are (R.reading (readingAt (monthOf file) j)) in
+        record {
+          stands = record { known-kind = reading-here .known-kind; fits = omega (arith, reading-here .fits, length-drop place file) };
+          kind = its-kind (readingAt (monthOf file) j .over) kind;
+        }
 
-    pub reading-is :
-        {x : CReading.Reading} {part : List ℕ} → R.reading (readingOf x) ≡ recordAs R.readingKind part
-        → part ≡ drop (s .«readings_at» + 10 * j) file → ReadingIs file j x
-    reading-is {x} e p =
-        let it : R.reading (readingOf x) ≡ R.reading (readingAt (monthOf file) j) = e ∙ ap (recordAs R.readingKind) p ∙ reading-there reading-here in
-        record { is = said-of (λ m. readingOf x ≡ readingAt m j) cc }
+    pub reading-read : {x : CReading.Reading} → ReadingIs file place x → readingOf x ≡ readingAt (monthOf file) j
+    reading-read {x} r = let it : R.reading (readingOf x) ≡ R.reading (readingAt (monthOf file) j) = r .is ∙ reading-here .is in cc
+
+    -- and behind it stands the next
+    module _ {x : CReading.Reading} (r : ReadingIs file place x) {size : ℕ} (s-is : size ≡ 1 + R.bodyLength (R.readingKindOf (overOf (x .over)))) where
+      its-size : size ≡ readingSize (readingAt (monthOf file) j)
+      unfolding readingSize
+      its-size =
+          s-is ∙ ap (λ (y : R.Reading). 1 + R.bodyLength (R.readingKindOf (y .over))) (reading-read r)
+          ∙ ap (λ (n : ℕ). 1 + n) (lengths-are (R.reading (readingAt (monthOf file) j)))
+
+      pub next-place : place + size ≡ s .«readings_at» + sizesBefore (monthOf file .readings) (suc j)
+      unfolding sizesBefore sum readingAt
+      next-place = omega (arith, its-size, p .is)
+
+      pub next-within : place + size ≤ length file
+      unfolding readingSize
+      next-within = omega (arith, its-size, reading-here .fits)
 
   module _ (i : ℕ) (a : PartyAsked file s i) where
     party-here : Standing file (s .«parties_at» + 22 * i) (R.party (partyAt (monthOf file) i))
@@ -163,3 +187,43 @@ module _ (file : List ℕ) (s : Sections) where
     pub gln-is : {gln part : List ℕ} → gln ≡ glnPart part 1 → part ≡ drop (s .«parties_at» + 22 * i) file → GlnIs file i gln
     unfolding glnBytes
     gln-is {gln} e p = record { is = said-of (λ m. gln ≡ partyAt m i .gln) (e ∙ ap glnBytes p ∙ gln-there party-here) }
+
+-- a byte of the file is there
+pub inside : (file : List ℕ) (place : ℕ) → ReadingAsked file place → place < length file
+inside file place a = omega (arith, a .stands .fits, length-drop place file)
+
+-- THE READING AT A BYTE, by its kind
+module _ (file : List ℕ) (place : ℕ) (a : ReadingAsked file place) {part : List ℕ} (p : part ≡ drop place file) where
+  kind-is : getD part 0 0 ≡ R.kindAt (drop place file)
+  unfolding R.kindAt at
+  kind-is = ap (λ (l : List ℕ). getD l 0 0) p
+
+  long-fits : (k : ℕ) → R.kindAt (drop place file) ≡ k → 1 + R.bodyLength k ≤ length part
+  long-fits k e = let fits = rw e at (a .stands .fits) in omega (arith, ap length p)
+
+  as-read : (k : ℕ) → R.kindAt (drop place file) ≡ k → {x : CReading.Reading} → R.reading (readingOf x) ≡ recordAs k part → ReadingIs file place x
+  unfolding recordAs R.recordAt
+  as-read k e {x} r =
+      record { is = r ∙ ap (recordAs k) p ∙ ap (λ (n : ℕ). R.recordFrom n (R.cutInto (R.fieldWidths n) (drop 1 (drop place file)))) (sym e) }
+
+  pub some-byte : 1 ≤ length part
+  some-byte = omega (arith, a .stands .fits, ap length p)
+
+  module _ (e : getD part 0 0 ≡ R.longReadingKind) where
+    pub long-enough : 26 ≤ length part
+    unfolding body-lengths
+    long-enough = long-fits R.longReadingKind (sym kind-is ∙ e)
+
+    pub long-is : {x : CReading.Reading} → R.reading (readingOf x) ≡ recordAs R.longReadingKind part → ReadingIs file place x
+    long-is = as-read R.longReadingKind (sym kind-is ∙ e)
+
+  module _ (e : getD part 0 0 ≡ R.longReadingKind → ⊥) where
+    other-kind : R.kindAt (drop place file) ≡ R.readingKind
+    other-kind = ⊎-elim (λ (k : R.kindAt (drop place file) ≡ R.readingKind). k) (λ (k : R.kindAt (drop place file) ≡ R.longReadingKind). absurd (e (kind-is ∙ k))) (a .kind)
+
+    pub own-enough : 10 ≤ length part
+    unfolding body-lengths
+    own-enough = long-fits R.readingKind other-kind
+
+    pub own-is : {x : CReading.Reading} → R.reading (readingOf x) ≡ recordAs R.readingKind part → ReadingIs file place x
+    own-is = as-read R.readingKind other-kind

@@ -1,17 +1,21 @@
 -- What the readers of an accepted file's fields ask and give: what stands in the month that the file is read as.
 use mathlib.Core.List.{List}
 use mathlib.Core.Path.{_≡_}
-use Prim.Native.Nat.{ℕ, _<_}
+use mathlib.Core.Logic.{_⊎_}
+use Prim.Native.Nat.{ℕ, _+_, _<_}
 use lib.IntN.{ℤ}
-use Rattle.record.specs.Record.{flowsOf, readingOf}
+use lib.ListN.{drop}
+use Rattle.record.specs.Record.{flowsOf, readingOf, Whole}
 use Rattle.record.specs.declared.Flows as CFlows
 use Rattle.record.specs.declared.Reading as CReading
 use Rattle.file_sections.specs.declared.Sections.{Sections}
 use Rattle.file_sections.specs.Walk.{Accepted}
-use Rattle.rules.specs.Month.{flowsAt, partyAt, priceAt, readingAt, shareOf}
+use Rattle.rules.specs.Month.{flowsAt, partyAt, priceAt, shareOf, monthOf}
 use Rattle.rules.specs.MonthFile.{MonthFile, readMonth}
+use Rattle.rules.specs.Record.{readingKind, longReadingKind, reading, kindAt, recordAt}
 use Rattle.rules.specs.Setting.{Setting}
 use Rattle.rules.specs.Refusals.{given}
+use Rattle.rules.proofs.Places.{sizesBefore}
 
 pub record FixedAsked (file : List ℕ) (s : Sections) (t : ℕ) : Type 0 where
   pub accepted : Accepted file s
@@ -25,9 +29,16 @@ pub record PriceAsked (file : List ℕ) (s : Sections) (t : ℕ) : Type 0 where
   pub accepted : Accepted file s
   pub hour : t < s .heading .hours
 
-pub record ReadingAsked (file : List ℕ) (s : Sections) (j : ℕ) : Type 0 where
+-- a reading of either kind stands whole at a byte
+pub record ReadingAsked (file : List ℕ) (place : ℕ) : Type 0 where
+  pub stands : Whole (drop place file)
+  pub kind : (kindAt (drop place file) ≡ readingKind) ⊎ (kindAt (drop place file) ≡ longReadingKind)
+
+-- reading j of an accepted file, which stands behind the bytes of those before it: an 08 has more than a 04
+pub record ReadingPlaced (file : List ℕ) (s : Sections) (j place : ℕ) : Type 0 where
   pub accepted : Accepted file s
   pub number : j < s .readings
+  pub is : place ≡ s .«readings_at» + sizesBefore (monthOf file .readings) j
 
 pub record PartyAsked (file : List ℕ) (s : Sections) (i : ℕ) : Type 0 where
   pub accepted : Accepted file s
@@ -43,8 +54,9 @@ pub record RefixedIs (file : List ℕ) (t : ℕ) (f : CFlows.Flows) : Type 0 whe
 pub record PriceIs (file : List ℕ) (t : ℕ) (z : ℤ) : Type 0 where
   pub is : (setting : Setting) (m : MonthFile) → readMonth setting file ≡ given m → z ≡ priceAt m t
 
-pub record ReadingIs (file : List ℕ) (j : ℕ) (x : CReading.Reading) : Type 0 where
-  pub is : (setting : Setting) (m : MonthFile) → readMonth setting file ≡ given m → readingOf x ≡ readingAt m j
+-- the reading that stands there
+pub record ReadingIs (file : List ℕ) (place : ℕ) (x : CReading.Reading) : Type 0 where
+  pub is : reading (readingOf x) ≡ recordAt (drop place file)
 
 pub record ShareIs (file : List ℕ) (i n : ℕ) : Type 0 where
   pub is : (setting : Setting) (m : MonthFile) → readMonth setting file ≡ given m → n ≡ shareOf m i

@@ -1,6 +1,7 @@
 // What stands at a place of an accepted month file (01 "The month file"): an hour's flows, a price, a reading, a load share, a GLN. Each function reads the one
 // record that stands there by its kind's own function of `record`: an accepted file has that kind there. They ask the sections that `file_sections::read`
-// gave for this file, and a place within them; to refuse by themselves they would have to read the file again.
+// gave for this file, and a place within them; to refuse by themselves they would have to read the file again. A reading is of one of two lengths, so it is
+// asked for by the byte where it stands.
 use file_sections::Sections;
 use record::Flows;
 use record::Reading;
@@ -42,12 +43,16 @@ pub fn price_ore(file: &[u8], s: Sections, t: usize) -> i64
     record::price_in(from_record(file, s.prices_at, record::PRICE_SIZE, t))
 }
 
-// A reading.
-pub fn reading(file: &[u8], s: Sections, j: usize) -> Reading
-    requires { ⌜ ReadingAsked (now file) s j ⌝ }
-    ensures { λ x. ⌜ ReadingIs (now (file .entry)) j x ⌝ }
+// The reading that stands at a byte, in this month or over several.
+pub fn reading(file: &[u8], at: usize) -> Reading
+    requires { ⌜ ReadingAsked (now file) at ⌝ }
+    ensures { λ x. ⌜ ReadingIs (now (file .entry)) at x ⌝ }
 {
-    record::reading_in(from_record(file, s.readings_at, record::READING_SIZE, j))
+    let part = &file[at..];
+    if part[0] == record::kind::LONG_READING {
+        return record::long_reading_in(part);
+    }
+    record::reading_in(part)
 }
 
 // A party's load share, in kWh per year.

@@ -4,6 +4,7 @@ use answer::Refusal;
 use gln::Gln;
 use record::Flows;
 use record::Heading;
+use record::Over;
 use record::Read;
 use record::Reading;
 use record::Record;
@@ -22,6 +23,8 @@ const REFIXED_HOUR: u64 = record::kind::REFIXED_HOUR as u64;
 
 const END: u64 = record::kind::END as u64;
 
+const LONG_READING: u64 = record::kind::LONG_READING as u64;
+
 fn refused(x: Refusal, place: usize) {
     io::print_decimal(OUT, answer::number(x) as u64);
     io::write_all(OUT, b" at ");
@@ -35,6 +38,19 @@ fn signed(z: i64) {
     } else {
         io::write_all(OUT, b"-");
         io::print_decimal(OUT, ((-1 - z) as u64) + 1);
+    }
+}
+
+// The weights of a reading over several months.
+fn weights(over: Over) {
+    match over {
+        Over::ThisMonth => {}
+        Over::ManyMonths(before, whole) => {
+            io::write_all(OUT, b" from ");
+            io::print_decimal(OUT, before);
+            io::write_all(OUT, b" of ");
+            io::print_decimal(OUT, whole);
+        }
     }
 }
 
@@ -56,6 +72,7 @@ fn kind(r: Record) {
         Record::Reading(x) => {
             io::write_all(OUT, b"reading ");
             io::print_decimal(OUT, x.e_wh as u64);
+            weights(x.over);
         }
         Record::Price(_, price_ore) => {
             io::write_all(OUT, b"price ");
@@ -96,7 +113,7 @@ fn read_case(part: &[u8]) {
     }
 }
 
-// Written into a part of 22 bytes: room for all but an hour.
+// Written into a part of 22 bytes: room for all but an hour and a reading over months.
 fn write_case(r: Record, gln: &[u8]) {
     io::write_all(OUT, b"write ");
     let mut part = [0u8; 22];
@@ -111,7 +128,7 @@ fn write_case(r: Record, gln: &[u8]) {
     }
 }
 
-// An hour written and read back.
+// An hour, or a reading over months, written and read back.
 fn hour_case(r: Record) {
     io::write_all(OUT, b"write ");
     let mut part = [0u8; 36];
@@ -138,7 +155,7 @@ fn glns() {
 fn reads() {
     read_case(b"");
     read_case(b"\x00");
-    read_case(b"\x08");
+    read_case(b"\xff");
     read_case(b"\x01\x00\x01\x07\xe9\x0b\x02\xd0\x02");
     read_case(b"\x01\x00\x01\x07\xe9\x0b\x02\xd0\x02\x01");
     read_case(b"\x01\x00\x01\x07\xe9\x0d\x02\xd0\x02\x01");
@@ -154,6 +171,13 @@ fn more_reads() {
     read_case(b"\x04\x3f\x00\x00\x02\xea\x3b\x9a\xca\x01");
     read_case(b"\x04\x3f\x00\x01\x00\x01\x00\x00\x00\x00");
     read_case(b"\x04\x3f\x00\x00\x02\xe9\x3b\x9a\xca\x01");
+    read_case(
+        b"\x08\x3f\x00\x00\x02\xe9\x3b\x9a\xca\x00\xff\xff\xff\xff\xff\xff\xff\xff\x00\x00\x00\x00\x00\x00\x00\x00",
+    );
+    read_case(b"\x08\x3f\x00\x00\x02\xe9\x3b\x9a\xca\x00\x00\x00\x00\x00\x00\x00\x00\x00\x00\x00\x00\x00\x00\x00\x00");
+    read_case(
+        b"\x08\x3f\x00\x00\x02\xea\x3b\x9a\xca\x01\x00\x00\x00\x00\x00\x00\x00\x01\x00\x00\x00\x00\x00\x00\x00\x02",
+    );
     read_case(b"\x05\x02\xe8\xff\xb3\xb4\xc0");
     read_case(b"\x05\x02\xe9\xff\xb3\xb4\xc0");
     read_case(b"\x05\x02\xe8\xff\xb3\xb4\xbf");
@@ -167,6 +191,16 @@ fn flows(status: u8, net_wh: i64) -> Flows {
         production_wh: 0,
         hourly_wh: 0,
         flex_wh: 0,
+    }
+}
+
+fn long_reading(before: u64, whole: u64) -> Reading {
+    Reading {
+        party: 63,
+        a: 4,
+        b: 5,
+        e_wh: 7,
+        over: Over::ManyMonths(before, whole),
     }
 }
 
@@ -201,6 +235,7 @@ fn more_writes() {
             a: 5,
             b: 5,
             e_wh: 1000000001,
+            over: Over::ThisMonth,
         }),
         b"",
     );
@@ -210,9 +245,12 @@ fn more_writes() {
             a: 4,
             b: 5,
             e_wh: 1000000001,
+            over: Over::ThisMonth,
         }),
         b"",
     );
+    write_case(Record::Reading(long_reading(0, 0)), b"");
+    hour_case(Record::Reading(long_reading(18446744073709551615, 1)));
     write_case(Record::Price(0, 5000001), b"");
 }
 
@@ -231,7 +269,7 @@ fn plain_case(kind: u64, numbers: &[i64]) {
 }
 
 fn plains() {
-    plain_case(8, &[0i64; 1]);
+    plain_case(255, &[0i64; 1]);
     plain_case(PARTY, &[1000i64]);
     plain_case(PARTY, &[1000i64, 0]);
     plain_case(PARTY, &[-1i64]);
@@ -240,6 +278,9 @@ fn plains() {
     plain_case(READING, &[63i64, 0, 1, 4294967296]);
     plain_case(PRICE, &[0i64, -5000000]);
     plain_case(END, &[4294967296i64]);
+    plain_case(LONG_READING, &[63i64, 0, 1, 4294967296, 0, 0]);
+    plain_case(LONG_READING, &[63i64, 0, 1, 7, -1, 0]);
+    plain_case(LONG_READING, &[63i64, 0, 1, 7, 9223372036854775807, 0]);
 }
 
 fn main() {

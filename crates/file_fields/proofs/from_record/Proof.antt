@@ -1,16 +1,9 @@
 -- `file_fields::from_record` meets its contract: all bytes from the record on. Assumes nothing.
-use mathlib.Core.List.{List}
-use mathlib.Core.Path.{_≡_}
-use Prim.Native.Nat.{ℕ, _+_, _-_, _*_}
-use native.Mathlib.Omega.{arith}
+use Prim.Native.Nat.{_+_, _*_}
 use borrow.Author.Needs.{needs}
-use lib.ListN.{length, take, drop, length-drop}
-use lib.Seq.{take-all}
+use Rattle.file_fields.proofs.OneRecord.{from-there}
 use Rattle.file_fields.proofs.from_record.Statement.{statement}
 use Rattle.file_fields.proofs.from_record.Tie as tie
-
-from-there : (file : List ℕ) (offset : ℕ) → take (length file - offset) (drop offset file) ≡ drop offset file
-from-there file offset = take-all (length file - offset) (drop offset file) (omega (arith, length-drop offset file))
 
 mul-at : tie.Need-mul-at
 mul-at c = search needs
