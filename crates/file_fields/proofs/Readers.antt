@@ -3,7 +3,8 @@
 use mathlib.Core.List.{List, []}
 use mathlib.Core.Logic.{_⊎_, inl, inr, ⊎-elim}
 use mathlib.Core.Path.{_≡_, sym, _∙_, ap, subst}
-use Prim.Native.Nat.{ℕ, suc, _+_, _*_, _≤_, _<_}
+use Prim.Native.Nat.{ℕ, zero, suc, _+_, _-_, _*_, _≤_, _<_, zero-le}
+use native.Mathlib.Nat.{eq-zero-or-pos}
 use native.Mathlib.Omega.{arith}
 use lib.IntN.{ℤ, pos}
 use lib.ListN.{length, getD, drop, length-drop}
@@ -17,6 +18,7 @@ use Rattle.file_sections.specs.Walk.{sectionsOf, Accepted}
 use Rattle.file_sections.proofs.AcceptedFile.{month-of, read-as, month-whole, sections-are, hours-are, parties-are, refixed-are, readings-are}
 use Rattle.file_fields.specs.Fields.{FixedAsked, RefixedAsked, PriceAsked, ReadingAsked, ReadingPlaced, PartyAsked, FixedIs, RefixedIs, PriceIs, ReadingIs, ShareIs, GlnIs}
 use Rattle.file_fields.proofs.OneRecord.{priceIn, shareIn, kind-there, fixed-there, refixed-there, price-there, share-there, gln-there}
+use Rattle.rules.specs.Limits.{longestFile}
 use Rattle.rules.specs.Month.{monthOf, flowsAt, partyAt, priceAt, readingAt, shareOf}
 use Rattle.rules.specs.MonthFile.{MonthFile, H, P, readMonth}
 use Rattle.rules.specs.Setting.{Setting, provisional}
@@ -187,6 +189,24 @@ module _ (file : List ℕ) (s : Sections) where
     pub gln-is : {gln part : List ℕ} → gln ≡ glnPart part 1 → part ≡ drop (s .«parties_at» + 22 * i) file → GlnIs file i gln
     unfolding glnBytes
     gln-is {gln} e p = record { is = said-of (λ m. gln ≡ partyAt m i .gln) (e ∙ ap glnBytes p ∙ gln-there party-here) }
+
+-- FEWER READINGS THAN BYTES: each has its kind byte at least
+one-byte-each : (l : List R.Reading) (k : ℕ) → k ≤ sizesBefore l k
+unfolding sizesBefore sum readingSize
+one-byte-each l zero = omega arith
+one-byte-each l (suc k) = omega (arith, one-byte-each l k)
+
+pub short-file : (file : List ℕ) (s : Sections) → Accepted file s → length file ≤ longestFile
+short-file file s ok = W.within-is 1 longestFile (length file) (W.of-the-right-length provisional file (read-as file s ok provisional) .0) .1
+
+pub few-readings : (file : List ℕ) (s : Sections) → Accepted file s → s .readings ≤ longestFile
+few-readings file s ok =
+    ⊎-elim (λ (z : s .readings ≡ 0). rw z zero-le)
+    (λ (some : 0 < s .readings).
+    let last : ℕ = s .readings - 1 in
+    let stands = reading-stands file s ok last (omega arith) in
+    omega (arith, stands .fits, one-byte-each (monthOf file .readings) last, short-file file s ok))
+    (eq-zero-or-pos (s .readings))
 
 -- a byte of the file is there
 pub inside : (file : List ℕ) (place : ℕ) → ReadingAsked file place → place < length file

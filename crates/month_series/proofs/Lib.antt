@@ -1,4 +1,5 @@
 pub mod Weights
 pub mod OneHour
 pub mod Series
+pub mod Judging
 pub mod OneReading

@@ -1,21 +1,23 @@
 -- The series of a month that a file is read as (01 "From flows to the curve" and "Refusal numbers"): the fixed and the refixed hours, their residuals, and the
 -- curve's sums up to each hour.
-use mathlib.Core.Bool.{Bool, cond, _||_}
-use mathlib.Core.List.{List}
+use mathlib.Core.Bool.{Bool, cond}
+use mathlib.Core.List.{List, [], _∷_}
 use mathlib.Core.Path.{_≡_}
-use Prim.Native.Nat.{ℕ, suc, _-_, _<_}
-use lib.Dec.{eqb, leb}
+use Prim.Native.Nat.{ℕ, suc, _<_}
+use lib.Dec.{eqb}
 use lib.ListN.{length}
 use Rattle.answer.specs.Said.{named}
 use Rattle.file_sections.specs.Walk.{Accepted}
 use Rattle.file_sections.specs.declared.Sections.{Sections}
 use Rattle.month_series.specs.declared.Judged.{Judged}
 use Rattle.month_series.specs.declared.Judged.the-variants.{Figures, Refused}
+use Rattle.periodise.specs.declared.Spread.{Spread}
 use Rattle.rules.specs.Flows.{Flows, residualWh}
 use Rattle.rules.specs.Limits as Limits
-use Rattle.rules.specs.Month.{flowsAt, curve, hourVerdict, isEstimated}
+use Rattle.rules.specs.Month.{flowsAt, curve, weightBefore, wholeWeight, weightsFit, followsWhole, hourVerdict, isEstimated}
 use Rattle.rules.specs.MonthFile.{MonthFile, H}
-use Rattle.rules.specs.Refusals.{Verdict, accepted, refused, inTurn}
+use Rattle.rules.specs.Record.{Reading}
+use Rattle.rules.specs.Refusals.{wholeExceeded, nothingToFollow, Verdict, accepted, refused, unless, inTurn}
 use Rattle.rules.specs.Words as Words
 
 -- "There is a fixed series and possibly a refixed one."
@@ -47,9 +49,16 @@ pub record HourAsked (file : List ℕ) (s : Sections) (refixed : Bool) (t : ℕ)
 abbrev pub estimatedOne : ℕ → ℕ
 estimatedOne status = cond (eqb status Limits.estimated) 1 0
 
--- 13, "E positive and S zero", does not apply to a reading: E is 0, or S, what lies between the beginnings at its two ends, is not
-abbrev pub followsBy : ℕ → ℕ → ℕ → Bool
-followsBy e start end = eqb e 0 || leb 1 (end - start)
+-- a reading as it is spread, by the month's own weight: E, the weight before this month, the weight of the whole reading (02, W3)
+abbrev pub spreadOf : Reading → ℕ → Spread
+spreadOf r own = record { «e_wh» = r .e; before = weightBefore (r .over); whole = wholeWeight (r .over) own }
+
+-- 18 and then 13 of it: the rules' `readingChecks`
+unfoldable pub spreadChecks : Spread → ℕ → ℕ → List Verdict
+spreadChecks s own place =
+    unless (weightsFit (s .before) own (s .whole)) wholeExceeded place
+    ∷ unless (followsWhole (s .«e_wh») (s .whole)) nothingToFollow place
+    ∷ []
 
 -- "then the fixed hours in order, each 7, 8, 9; the refixed hours likewise": what is said of a series
 abbrev pub judgedVerdict : Judged → Verdict

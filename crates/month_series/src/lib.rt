@@ -1,25 +1,28 @@
 // The series of a month that a file is read as (01 "From flows to the curve" and "Refusal numbers"): its load shares, the fixed and refixed residuals with 7, 8
-// and 9, the curve's beginnings, and 13 by reading. All but `beginnings` go through the file by the readers of `file_fields`, so
-// they ask that it is accepted.
+// and 9, the curve's beginnings, and 18 and 13 by reading (02, W3). What goes through the file does so by the readers of `file_fields`, so it asks that the file
+// is accepted.
 use answer::Answer;
 use answer::Refusal;
 use file_sections::Sections;
+use periodise::Spread;
 use record::Flows;
+use record::Over;
+use record::Reading;
 use residual::Hour;
 ghost use mathlib.Core.Bool.{true};
 ghost use mathlib.Core.Path.{_≡_};
-ghost use Prim.Native.Nat.{suc, _≤_};
+ghost use Prim.Native.Nat.{suc, _-_, _≤_, _<_};
 ghost use lib.ListN.{length};
 ghost use Rattle.answer.specs.Said.{said};
 ghost use Rattle.file_sections.specs.Walk.{Accepted};
-ghost use Rattle.month_series.specs.Series.{seriesOf, hoursIn, beginning, beginningsOf, HourAsked, estimatedOne, followsBy, SeriesIs};
-ghost use Rattle.record.specs.Record.{flowsOf};
+ghost use Rattle.month_series.specs.Series.{seriesOf, hoursIn, beginning, beginningsOf, HourAsked, estimatedOne, spreadOf, spreadChecks, SeriesIs};
+ghost use Rattle.record.specs.Record.{flowsOf, readingOf};
 ghost use Rattle.residual.specs.Hour.{judgement};
 ghost use Rattle.rules.specs.Flows.{judged, flowsInRange};
 ghost use Rattle.rules.specs.Limits.{mostHours};
-ghost use Rattle.rules.specs.Month.{monthOf, shareOf, flowsAt, readingVerdict};
+ghost use Rattle.rules.specs.Month.{monthOf, shareOf, flowsAt, weightsFit, followsWhole, readingVerdict};
 ghost use Rattle.rules.specs.MonthFile.{P};
-ghost use Rattle.rules.specs.Refusals.{inTurn};
+ghost use Rattle.rules.specs.Refusals.{first, inTurn};
 ghost use Rattle.rules.specs.Words.{figures, at};
 
 // A series that was judged: how many of its hours are estimated, where each has its figure; or the first refusal and its hour.
@@ -116,29 +119,81 @@ pub fn beginnings(curve: &[u32], out: &mut [u64])
     out[t] = sum;
 }
 
-// 13 of one reading, by its E and what the curve adds up to before its first hour and before the hour after its last.
-fn follows(e_wh: u32, start: u64, end: u64) -> bool
-    requires { ⌜ start ≤ end ⌝ }
-    ensures { λ r. ⌜ r ≡ followsBy «e_wh» start end ⌝ }
+// What the curve weighs between two hours.
+pub fn weight_between(beginnings: &[u64], a: usize, b: usize) -> u64
+    requires { ⌜ (a < length (now beginnings)) × ((b < length (now beginnings)) × (at (now beginnings) a ≤ at (now beginnings) b)) ⌝ }
+    ensures { λ r. ⌜ r ≡ at (now (beginnings .entry)) b - at (now (beginnings .entry)) a ⌝ }
 {
-    (e_wh == 0) | (1 <= end - start)
+    beginnings[b] - beginnings[a]
 }
 
-// "13 by reading": the first reading that has energy and no curve to follow.
-pub fn followed(file: &[u8], s: Sections, beginnings: &[u64]) -> Answer
+// A reading as it is spread: one in this month has nothing before this month, and the month's own weight as the whole (02, W3). This is all that tells a 04
+// from an 08.
+pub fn spread_of(x: Reading, own: u64) -> Spread
+    ensures { λ r. ⌜ r ≡ spreadOf (readingOf x) own ⌝ }
+{
+    let over = x.over;
+    match over {
+        Over::ThisMonth => Spread {
+            e_wh: x.e_wh as u64,
+            before: 0,
+            whole: own,
+        },
+        Over::ManyMonths(before, whole) => Spread {
+            e_wh: x.e_wh as u64,
+            before: before,
+            whole: whole,
+        },
+    }
+}
+
+// 18 does not apply. "weight before plus the month's own weight" can pass 64 bits, so it is never formed.
+fn weights_fit(s: Spread, own: u64) -> bool
+    ensures { λ r. ⌜ r ≡ weightsFit (s .before) own (s .whole) ⌝ }
+{
+    if s.whole < s.before {
+        return false;
+    }
+    (own <= s.whole - s.before) & (s.whole <= limits::GREATEST_WHOLE)
+}
+
+// 13 does not apply: there is no energy, or a weight to follow.
+fn follows(s: Spread) -> bool
+    ensures { λ r. ⌜ r ≡ followsWhole (s .«e_wh») (s .whole) ⌝ }
+{
+    (s.e_wh == 0) | (1 <= s.whole)
+}
+
+// 18 of a reading, and then 13.
+fn judge_reading(s: Spread, own: u64, j: usize) -> Answer
+    ensures { λ r. ⌜ said r ≡ first (spreadChecks s own j) ⌝ }
+{
+    if !weights_fit(s, own) {
+        return Answer::Refused(Refusal::WholeExceeded, j);
+    }
+    if !follows(s) {
+        return Answer::Refused(Refusal::NothingToFollow, j);
+    }
+    Answer::Done
+}
+
+// "13 by reading", and 18 before it (02, W3): the first reading that is refused. Each stands behind the bytes of the one before it.
+pub fn judge_readings(file: &[u8], s: Sections, beginnings: &[u64]) -> Answer
     requires { ⌜ Accepted (now file) s ⌝ }
     requires { ⌜ now beginnings ≡ beginningsOf (monthOf (now file)) ⌝ }
     ensures { λ r. ⌜ said r ≡ inTurn (length (monthOf (now (file .entry)) .readings)) (readingVerdict (monthOf (now (file .entry)))) ⌝ }
 {
     let readings = s.readings;
+    let mut place = s.readings_at;
     let mut j = 0;
     while j < readings {
-        let x = file_fields::reading(file, s, j);
-        let a = x.a as usize;
-        let b = x.b as usize;
-        if !follows(x.e_wh, beginnings[a], beginnings[b]) {
-            return Answer::Refused(Refusal::NothingToFollow, j);
-        }
+        let x = file_fields::reading(file, place);
+        let own = weight_between(beginnings, x.a as usize, x.b as usize);
+        let judged = judge_reading(spread_of(x, own), own, j);
+        let Answer::Done = judged else {
+            return judged;
+        };
+        place += record::reading_size(x);
         j += 1;
     }
     Answer::Done

@@ -11,18 +11,20 @@ use borrow.Author.Tests.{eqb-true, eqb-false, eq-eqb}
 use borrow.Rule.Slice.PartMut.{midOf, putMid, mid-len, same-len-mid}
 use lib.Dec.{eqb}
 use lib.ListN.{length}
-use Rattle.month_series.specs.Series.{beginning}
-use Rattle.month_window.specs.Window.{figureBy, figureTo, Taken, Added}
-use Rattle.month_window.proofs.Figures.{between, by-at-most, none-before, none-after, part-growth}
+use Rattle.month_series.specs.Series.{beginning, spreadOf}
+use Rattle.month_window.specs.Window.{ownBy, wholeBy, figureBy, figureTo, Taken, Added}
+use Rattle.month_window.proofs.Figures.{between, by-at-most, none-before, none-after, whole-is, part-growth}
 use Rattle.month_window.proofs.Parts.{part-at, before-part, in-part, after-part}
-use Rattle.periodise.specs.Growth.{growthFrom, grownFrom, greatestWhole, Part, Room}
-use Rattle.periodise.proofs.Growth.{sum-rises, sum-bound}
-use Rattle.rules.specs.Limits.{greatestCurveNumber, greatestEnergy}
+use Rattle.periodise.specs.Growth.{grownFrom, Part, Room}
+use Rattle.periodise.specs.declared.Spread.{Spread}
+use Rattle.rules.specs.Limits.{greatestEnergy, greatestWhole}
+use Rattle.rules.specs.Month.{weightBefore, wholeWeight}
+use Rattle.rules.specs.Periodised.{periodisedFigure}
 use Rattle.rules.specs.Record.{Reading}
 use Rattle.rules.specs.Words.{sum, at, figures}
 use Rattle.rules.proofs.LargestRemainder.{less-cases}
 use Rattle.rules.proofs.Loops.{figures-length, figures-at}
-use Rattle.rules.proofs.Sums.{sum-cong}
+use Rattle.rules.proofs.Sums.{sum-cong, sum-rises}
 
 module _ (weight : ℕ → ℕ) (r : Reading) (i t : ℕ) where
   to-its-party : i ≡ r .party → figureTo weight r i t ≡ figureBy weight r t
@@ -111,7 +113,14 @@ module _ {r : Reading} {curve beginnings : List ℕ} {start hours : ℕ} {out : 
         }
 
     -- SOME OF IT
-    module _ (some : begin < end) {whole skipped : ℕ} (whole-is : whole ≡ at beginnings (r .b) - at beginnings (r .a)) (skipped-is : skipped ≡ at beginnings begin - at beginnings (r .a)) where
+    module _ (some : begin < end) {own skipped : ℕ} (own-is : own ≡ at beginnings (r .b) - at beginnings (r .a)) (skipped-is : skipped ≡ at beginnings begin - at beginnings (r .a)) where
+      -- what lies before the part, and the weight of the whole reading
+      abbrev before : ℕ
+      before = weightBefore (r .over)
+
+      abbrev whole : ℕ
+      whole = wholeWeight (r .over) own
+
       -- the reading's part of the curve, and the places that are lent for the run of it in the window
       abbrev part : List ℕ
       part = midOf (r .a) (r .b - r .a) curve
@@ -135,35 +144,38 @@ module _ {r : Reading} {curve beginnings : List ℕ} {start hours : ℕ} {out : 
       own-weights n b =
           sum-cong n {f = at part} {g = λ k. at curve (r .a + k)} (λ k c. own-weight k (omega arith))
 
-      whole-weighs : whole ≡ sum (r .b - r .a) (λ k. at curve (r .a + k))
-      whole-weighs = weighs (t .forwards) (t .in-month) whole-is
+      own-weighs : own ≡ ownBy (at curve) r
+      unfolding ownBy
+      own-weighs = weighs (t .forwards) (t .in-month) own-is
+
+      whole-weighs : whole ≡ wholeBy (at curve) r
+      whole-weighs = whole-is (at curve) r own-weighs
 
       -- the run's growths are the reading's figures
-      growths : (k : ℕ) → k < end - begin → growthFrom (r .e) 0 whole (at part) (skip + k) ≡ figureBy (at curve) r (begin + k)
+      growths : (k : ℕ) → k < end - begin → periodisedFigure (r .e) before whole (at part) (skip + k) ≡ figureBy (at curve) r (begin + k)
       growths k b =
           let there : skip + k ≡ begin + k - r .a = omega arith in
-          ap (growthFrom (r .e) 0 whole (at part)) there
-          ∙ part-growth (at curve) r whole-weighs {part = at part} own-weight (begin + k) (omega arith) (omega arith)
+          ap (periodisedFigure (r .e) before whole (at part)) there
+          ∙ part-growth (at curve) r own-weighs {part = at part} own-weight (begin + k) (omega arith) (omega arith)
 
       -- which are none of them above E
-      growth-small : (k : ℕ) → k < end - begin → growthFrom (r .e) 0 whole (at part) (skip + k) ≤ greatestEnergy
-      growth-small k b = rw (growths k b) (le-trans (by-at-most (at curve) r (begin + k)) (t .energy))
+      growth-small : (k : ℕ) → k < end - begin → periodisedFigure (r .e) before whole (at part) (skip + k) ≤ greatestEnergy
+      growth-small k b = rw (growths k b) (le-trans (by-at-most (at curve) r (t .weights) (begin + k)) (t .energy))
 
       -- what the periodisation asks
       whole-small : whole ≤ greatestWhole
-      unfolding beginning
-      whole-small =
-          omega (arith, whole-is, t .few, t .in-month, t .begun (r .b) (t .in-month), sum-bound (r .b) (at curve) greatestCurveNumber (λ i c. t .fits i (omega (arith, t .in-month))))
+      whole-small = omega (arith, whole-weighs, t .weights .1)
 
-      all-of-it : 0 + sum (length part) (at part) ≤ whole
+      all-of-it : before + sum (length part) (at part) ≤ whole
+      unfolding ownBy
       all-of-it =
           let same : sum (length part) (at part) ≡ sum (r .b - r .a) (at part) = ap (λ (n : ℕ). sum n (at part)) hours-of-part in
-          omega (arith, same, own-weights (r .b - r .a) (le-refl (r .b - r .a)), whole-weighs)
+          omega (arith, same, own-weights (r .b - r .a) (le-refl (r .b - r .a)), whole-weighs, t .weights .0)
 
       passed-weighs : skipped ≡ sum skip (at part)
       passed-weighs = weighs (omega arith) (omega (arith, t .in-month)) skipped-is ∙ sym (own-weights skip (omega arith))
 
-      part-asked : Part (r .e) 0 whole part skip skipped (length lent)
+      part-asked : Part (r .e) before whole part skip skipped (length lent)
       part-asked =
           record {
             spread = record { energy = t .energy; inside = all-of-it; most = whole-small };
@@ -171,7 +183,7 @@ module _ {r : Reading} {curve beginnings : List ℕ} {start hours : ℕ} {out : 
             passed = passed-weighs;
           }
 
-      room-asked : Room lent (r .e) 0 whole (at part) skip
+      room-asked : Room lent (r .e) before whole (at part) skip
       unfolding Room grownFrom
       room-asked k b =
           let inside : k < end - begin = omega (arith, places-of-run) in
@@ -179,7 +191,7 @@ module _ {r : Reading} {curve beginnings : List ℕ} {start hours : ℕ} {out : 
           omega (arith, growth-small k inside, part-at low high out k (omega arith), t .room (begin - start + k) (omega arith), ap (at out) same)
 
       -- SOME OF IT ADDED: the lent places come back with what they held and the run's figures
-      module _ {ys : List ℕ} (given : ys ≡ figures (length lent) (grownFrom lent (r .e) 0 whole (at part) skip)) where
+      module _ {ys : List ℕ} (given : ys ≡ figures (length lent) (grownFrom lent (r .e) before whole (at part) skip)) where
         as-many : length ys ≡ high - low
         as-many = ap length given ∙ figures-length (length lent) _ ∙ omega (arith, places-of-run)
 
@@ -199,7 +211,7 @@ module _ {r : Reading} {curve beginnings : List ℕ} {start hours : ℕ} {out : 
             ap (at after) there
             ∙ in-part low high out ys (omega arith) (omega (arith, t .places)) as-many k′ (omega arith)
             ∙ ap (λ (l : List ℕ). at l k′) given
-            ∙ figures-at (length lent) (grownFrom lent (r .e) 0 whole (at part) skip) k′ 0 (omega (arith, places-of-run))
+            ∙ figures-at (length lent) (grownFrom lent (r .e) before whole (at part) skip) k′ 0 (omega (arith, places-of-run))
             ∙ ap₂ (λ (x y : ℕ). x + y) (part-at low high out k′ (omega arith) ∙ ap (at out) (sym there))
             (growths k′ (omega arith) ∙ ap (figureBy (at curve) r) when ∙ sym (to-its-party (at curve) r i (start + k) e))
 
@@ -220,13 +232,16 @@ module _ {r : Reading} {curve beginnings : List ℕ} {start hours : ℕ} {out : 
                   (placed i k b);
             }
 
-      -- THE SAME of places that were worked out apart
-      module _ {x y : ℕ} (x-is : x ≡ low) (y-is : y ≡ high) where
+      -- THE SAME of places that were worked out apart, and of the reading as it is spread
+      module _ {x y : ℕ} (x-is : x ≡ low) (y-is : y ≡ high) {spread : Spread} (spread-is : spread ≡ spreadOf r own) where
         abbrev lent-there : List ℕ
         lent-there = midOf x (y - x) out
 
-        pub run-asked : Part (r .e) 0 whole part skip skipped (length lent-there) × Room lent-there (r .e) 0 whole (at part) skip
-        run-asked = rw (x-is, y-is) (part-asked, room-asked)
+        pub run-asked :
+            Part (spread .«e_wh») (spread .before) (spread .whole) part skip skipped (length lent-there)
+            × Room lent-there (spread .«e_wh») (spread .before) (spread .whole) (at part) skip
+        run-asked = rw (x-is, y-is, spread-is) (part-asked, room-asked)
 
-        pub run-added : {ys : List ℕ} → ys ≡ figures (length lent-there) (grownFrom lent-there (r .e) 0 whole (at part) skip) → Added r curve start hours out (putMid x (y - x) out ys)
-        run-added given = rw (x-is, y-is) (some-added (rw (x-is, y-is) at given))
+        pub run-added : {ys : List ℕ} → ys ≡ figures (length lent-there) (grownFrom lent-there (spread .«e_wh») (spread .before) (spread .whole) (at part) skip)
+            → Added r curve start hours out (putMid x (y - x) out ys)
+        run-added given = rw (x-is, y-is) (some-added (rw (x-is, y-is, spread-is) at given))

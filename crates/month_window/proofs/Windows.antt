@@ -2,63 +2,47 @@
 -- 64 bits.
 use mathlib.Core.Bool.{Bool, true, false, cond}
 use mathlib.Core.List.{List}
-use mathlib.Core.Logic.{⊎-elim}
 use mathlib.Core.Path.{_≡_, refl, sym, _∙_, ap, ap₂, subst}
-use Prim.Native.Nat.{ℕ, suc, _+_, _-_, _*_, _≤_, _<_, zero-le}
-use native.Mathlib.Nat.{le-refl, le-trans, mul-le-mul-right, eq-zero-or-pos}
+use Prim.Native.Nat.{ℕ, suc, _+_, _*_, _≤_, _<_, zero-le}
+use native.Mathlib.Nat.{le-refl, le-trans, mul-le-mul-right}
 use native.Mathlib.Numerals.{add-one}
 use native.Mathlib.Omega.{arith}
 use lib.Dec.{eqb}
 use lib.ListN.{length}
-use Rattle.file_sections.specs.Walk.{Accepted}
-use Rattle.file_fields.specs.Fields.{ReadingAsked, ReadingIs}
+use Rattle.file_fields.specs.Fields.{ReadingPlaced, ReadingIs}
 use Rattle.file_sections.specs.declared.Sections.{Sections}
-use Rattle.file_sections.proofs.AcceptedFile.{read-as, month-whole, readings-are}
-use Rattle.file_fields.proofs.FieldsRead.{reading-read}
-use Rattle.file_fields.proofs.Readers.{reading-stands}
+use Rattle.file_sections.proofs.AcceptedFile.{month-whole, readings-are}
+use Rattle.file_fields.proofs.Readers.{few-readings, reading-read}
 use Rattle.month_series.specs.Series.{beginning}
-use Rattle.month_window.specs.Window.{figureBy, figureTo, noWh, Window, Asked, Taken, Added}
-use Rattle.month_window.proofs.Figures.{by-cong, by-at-most}
-use Rattle.periodise.proofs.Growth.{sum-bound}
+use Rattle.month_window.specs.Window.{ownBy, wholeBy, figureBy, FitsBy, figureTo, noWh, Window, Asked, Taken, Added}
+use Rattle.month_window.proofs.Figures.{own-cong, whole-cong, by-cong, by-at-most}
 use Rattle.record.specs.Record.{readingOf}
 use Rattle.record.specs.declared.Reading as CReading
 use Rattle.rules.specs.Limits.{greatestEnergy, longestFile}
-use Rattle.rules.specs.Month.{curve, monthOf, readingAt, weightOf, readingFigure, figureFor, periodised}
-use Rattle.rules.specs.MonthFile.{MonthFile, H, P, readMonth}
+use Rattle.rules.specs.Month.{curve, monthOf, readingAt, weightOf, S, wholeOf, readingFigure, figureFor, periodised}
+use Rattle.rules.specs.MonthFile.{MonthFile, H, P}
 use Rattle.rules.specs.Record.{Reading}
-use Rattle.rules.specs.Refusals.{given}
-use Rattle.rules.specs.Setting.{provisional}
 use Rattle.rules.specs.Words.{sum, at, figures}
 use Rattle.rules.proofs.Loops.{figures-length, figures-at}
-use Rattle.rules.proofs.Sums.{sum-cong}
-use Rattle.rules.proofs.Whole.{Whole, ReadingRight, every-at, heading-facts, within-is, of-the-right-length}
-
--- a file that is read is not too long, and each reading has ten bytes of it
-at-most-longest : (file : List ℕ) {m : MonthFile} → readMonth provisional file ≡ given m → length file ≤ longestFile
-at-most-longest file e = within-is 1 longestFile (length file) (of-the-right-length provisional file e .0) .1
-
-pub few-readings : (file : List ℕ) (s : Sections) → Accepted file s → s .readings ≤ longestFile
-few-readings file s ok =
-    ⊎-elim (λ (z : s .readings ≡ 0). rw z zero-le)
-    (λ (some : 0 < s .readings).
-    omega (arith, at-most-longest file (read-as file s ok provisional), reading-stands file s ok (s .readings - 1) (omega arith) .fits))
-    (eq-zero-or-pos (s .readings))
+use Rattle.rules.proofs.Readings.{weights-fit, reading-fits}
+use Rattle.rules.proofs.Sums.{sum-cong, sum-at-most}
+use Rattle.rules.proofs.Whole.{Whole, ReadingRight, every-at}
 
 -- the rules' figure of a reading for a party is the curve's
 for-is-to : (m : MonthFile) (t i j : ℕ) → figureFor m t i j ≡ figureTo (curve m) (readingAt m j) i t
-unfolding figureFor figureTo readingFigure figureBy weightOf
+unfolding figureFor figureTo readingFigure figureBy wholeBy ownBy wholeOf S weightOf
 for-is-to m t i j = refl
 
 to-cong : {f g : ℕ → ℕ} (r : Reading) (i t : ℕ) → ((k : ℕ) → k < r .b → f k ≡ g k) → figureTo f r i t ≡ figureTo g r i t
 unfolding figureTo
 to-cong {f} {g} r i t same = ap (λ (x : ℕ). cond (eqb (r .party) i) x 0) (by-cong {f = f} {g = g} r t same)
 
-to-at-most : (weight : ℕ → ℕ) (r : Reading) (i t : ℕ) → figureTo weight r i t ≤ r .e
+to-at-most : (weight : ℕ → ℕ) (r : Reading) → FitsBy weight r → (i t : ℕ) → figureTo weight r i t ≤ r .e
 unfolding figureTo
-to-at-most weight r i t = go (eqb (r .party) i)
+to-at-most weight r fits i t = go (eqb (r .party) i)
   where
     go : (own : Bool) → cond own (figureBy weight r t) 0 ≤ r .e
-    go true = by-at-most weight r t
+    go true = by-at-most weight r fits t
     go false = zero-le
 
 -- after j readings
@@ -94,10 +78,14 @@ module _ {file : List ℕ} {s : Sections} {numbers beginnings : List ℕ} {start
   unfolding readingAt
   right j b = every-at (ReadingRight (H m) (P m)) (m .readings) (whole .readings) j _ b
 
+  fits : (j : ℕ) → j < length (m .readings) → FitsBy (curve m) (readingAt m j)
+  unfolding wholeBy ownBy wholeOf S weightOf
+  fits j b = weights-fit _ _ _ (reading-fits m j (a .readings-pass j b))
+
   small : (t i j : ℕ) → j ≤ length (m .readings) → sum j (figureFor m t i) ≤ j * greatestEnergy
   small t i j b =
-      sum-bound j (figureFor m t i) greatestEnergy
-      (λ n c. rw (for-is-to m t i n) (le-trans (to-at-most (curve m) (readingAt m n) i t) (right n (omega arith) .3)))
+      sum-at-most j (figureFor m t i) greatestEnergy
+      (λ n c. rw (for-is-to m t i n) (le-trans (to-at-most (curve m) (readingAt m n) (fits n (omega arith)) i t) (right n (omega arith) .3)))
 
   -- so what a party has periodised in an hour is far below 64 bits
   pub light : (t i : ℕ) → periodised m t i ≤ longestFile * greatestEnergy
@@ -116,16 +104,18 @@ module _ {file : List ℕ} {s : Sections} {numbers beginnings : List ℕ} {start
         each = λ i k b c. ap (λ (l : List ℕ). at l (i * hours + k)) e ∙ figures-at lent noWh (i * hours + k) 0 (omega (arith, a .size, party-places b));
       }
 
-  pub reading-asked : {j : ℕ} → j < s .readings → ReadingAsked file s j
-  reading-asked b = record { accepted = a .accepted; number = b }
-
   module _ {out : List ℕ} {j : ℕ} (n : Counted m start hours out j) where
-    module _ (b : j < s .readings) {x : CReading.Reading} (read : ReadingIs file j x) where
+    module _ {place : ℕ} (here : ReadingPlaced file s j place) {x : CReading.Reading} (read : ReadingIs file place x) where
       is : readingOf x ≡ readingAt m j
-      is = reading-read file s (a .accepted) read
+      is = reading-read file s j place here read
 
       in-file : j < length (m .readings)
-      in-file = omega (arith, readings-are file s (a .accepted))
+      in-file = omega (arith, here .number, readings-are file s (a .accepted))
+
+      same-weights : FitsBy (at numbers) (readingAt m j)
+      same-weights =
+          let same : (i : ℕ) → i < readingAt m j .b → at numbers i ≡ curve m i = λ i c. number-at i (omega (arith, right j in-file .2)) in
+          rw (own-cong (readingAt m j) same, whole-cong (readingAt m j) same) (fits j in-file)
 
       pub taken : Taken (readingOf x) numbers beginnings start hours out
       unfolding H
@@ -135,8 +125,7 @@ module _ {file : List ℕ} {s : Sections} {numbers beginnings : List ℕ} {start
             energy = right j in-file .3;
             forwards = omega (arith, right j in-file .1);
             in-month = omega (arith, right j in-file .2, numbers-length);
-            few = omega (arith, numbers-length, heading-facts (m .heading) (whole .head) .hours .1);
-            fits = λ t c. rw (number-at t (omega (arith, numbers-length))) (a .curve-fits t (omega (arith, numbers-length)));
+            weights = same-weights;
             all-begun = ap length (a .beginnings-are) ∙ figures-length (suc (H m)) (beginning (curve m)) ∙ ap suc (sym numbers-length);
             begun = λ t c. begun-at t (omega (arith, numbers-length));
             inside = omega (arith, a .inside, numbers-length);

@@ -10,25 +10,26 @@ use lib.ListN.{length}
 use Rattle.file_sections.specs.Walk.{Accepted}
 use Rattle.file_sections.specs.declared.Sections.{Sections}
 use Rattle.month_series.specs.Series.{beginning}
-use Rattle.rules.specs.Limits.{greatestCurveNumber, greatestEnergy, mostHours}
-use Rattle.rules.specs.Month.{curve, monthOf, periodised}
+use Rattle.rules.specs.Limits.{greatestEnergy, greatestWhole}
+use Rattle.rules.specs.Month.{curve, weightBefore, wholeWeight, monthOf, periodised, readingVerdict}
 use Rattle.rules.specs.MonthFile.{MonthFile, H, P}
 use Rattle.rules.specs.Periodised.{periodisedFigure}
 use Rattle.rules.specs.Record.{Reading}
-use Rattle.rules.specs.Words.{at, figures}
+use Rattle.rules.specs.Refusals as R
+use Rattle.rules.specs.Words.{sum, at, figures}
 
 -- A window of hours: party after party, each with `hours` places, the figures of the hours from `start` on.
 pub record Window (m : MonthFile) (start hours : ℕ) (w : List ℕ) : Type 0 where
   pub size : length w ≡ P m * hours
   pub each : (i k : ℕ) → i < P m → k < hours → at w (i * hours + k) ≡ periodised m (start + k) i
 
--- What is asked for one: an accepted file, its curve within the limit of 10 and the curve's beginnings, hours of the month, and a place lent for each party
--- and hour.
+-- What is asked for one: an accepted file, its curve and the curve's beginnings, readings that neither 18 nor 13 refuses, hours of the month, and a place lent
+-- for each party and hour.
 pub record Asked (file : List ℕ) (s : Sections) (curveNumbers beginnings : List ℕ) (start hours lent : ℕ) : Type 0 where
   pub accepted : Accepted file s
   pub curve-is : curveNumbers ≡ figures (H (monthOf file)) (curve (monthOf file))
-  pub curve-fits : (t : ℕ) → t < H (monthOf file) → curve (monthOf file) t ≤ greatestCurveNumber
   pub beginnings-are : beginnings ≡ figures (suc (H (monthOf file))) (beginning (curve (monthOf file)))
+  pub readings-pass : (j : ℕ) → j < length (monthOf file .readings) → readingVerdict (monthOf file) j ≡ R.accepted
   pub inside : start + hours ≤ H (monthOf file)
   pub size : lent ≡ P (monthOf file) * hours
 
@@ -36,10 +37,21 @@ pub record Asked (file : List ℕ) (s : Sections) (curveNumbers beginnings : Lis
 unfoldable pub noWh : ℕ → ℕ
 noWh k = 0
 
--- A reading's figure in hour t by these curve numbers: the rules' `readingFigure`, told of the curve alone.
+-- The month's own weight of a reading, the weight of the whole reading, and its figure in hour t by these curve numbers: the rules' `S`, `wholeOf` and
+-- `readingFigure`, told of the curve alone.
+unfoldable pub ownBy : (ℕ → ℕ) → Reading → ℕ
+ownBy weight r = sum (r .b - r .a) (λ k. weight (r .a + k))
+
+unfoldable pub wholeBy : (ℕ → ℕ) → Reading → ℕ
+wholeBy weight r = wholeWeight (r .over) (ownBy weight r)
+
 unfoldable pub figureBy : (ℕ → ℕ) → Reading → ℕ → ℕ
 figureBy weight r t =
-    cond (leb (r .a) t && ltb t (r .b)) (periodisedFigure (r .e) (r .b - r .a) (λ k. weight (r .a + k)) (t - r .a)) 0
+    cond (leb (r .a) t && ltb t (r .b)) (periodisedFigure (r .e) (weightBefore (r .over)) (wholeBy weight r) (λ k. weight (r .a + k)) (t - r .a)) 0
+
+-- its weights lie inside the whole, which is not too heavy: 18 does not apply
+abbrev pub FitsBy : (ℕ → ℕ) → Reading → Type 0
+FitsBy weight r = (weightBefore (r .over) + ownBy weight r ≤ wholeBy weight r) × (wholeBy weight r ≤ greatestWhole)
 
 -- what it gives party i in hour t: the rules' `figureFor`
 unfoldable pub figureTo : (ℕ → ℕ) → Reading → ℕ → ℕ → ℕ
@@ -50,8 +62,7 @@ pub record Taken (r : Reading) (curveNumbers beginnings : List ℕ) (start hours
   pub energy : r .e ≤ greatestEnergy
   pub forwards : r .a ≤ r .b
   pub in-month : r .b ≤ length curveNumbers
-  pub few : length curveNumbers ≤ mostHours
-  pub fits : (t : ℕ) → t < length curveNumbers → at curveNumbers t ≤ greatestCurveNumber
+  pub weights : FitsBy (at curveNumbers) r
   pub all-begun : length beginnings ≡ suc (length curveNumbers)
   pub begun : (t : ℕ) → t ≤ length curveNumbers → at beginnings t ≡ beginning (at curveNumbers) t
   pub inside : start + hours ≤ length curveNumbers

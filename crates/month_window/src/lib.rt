@@ -1,7 +1,6 @@
 // The periodised consumption of all parties in a window of hours (01 "Periodised consumption"; H2 6.2). The readings are gone through once for a window; of
 // each the run of its hours that lies in it is worked out, what the hours before that run weigh being a difference of two of the curve's beginnings.
 use file_sections::Sections;
-use periodise::Spread;
 use record::Reading;
 ghost use mathlib.Core.Path.{_≡_};
 ghost use Prim.Native.Nat.{_+_, _-_, _*_, _^_, _≤_, _<_, max, min};
@@ -42,23 +41,16 @@ pub fn earlier(x: usize, y: usize) -> usize
 }
 
 // Where a party's k-th hour of the window stands: party after party, each with a place for every hour.
-fn place(party: u8, hours: usize, k: usize) -> usize
+fn slot(party: u8, hours: usize, k: usize) -> usize
     requires { ⌜ party * hours + k < 2 ^ 64 ⌝ }
     ensures { λ r. ⌜ r ≡ party * hours + k ⌝ }
 {
     party as usize * hours + k
 }
 
-// What the curve weighs between two hours.
-fn weight_between(beginnings: &[u64], a: usize, b: usize) -> u64
-    requires { ⌜ (a < length (now beginnings)) × ((b < length (now beginnings)) × (at (now beginnings) a ≤ at (now beginnings) b)) ⌝ }
-    ensures { λ r. ⌜ r ≡ at (now (beginnings .entry)) b - at (now (beginnings .entry)) a ⌝ }
-{
-    beginnings[b] - beginnings[a]
-}
-
 // One reading, in the run of its hours that lies in the window. "The reading's a..b part of the curve slice is handed to the periodisation function as a slice of
-// its own" (01 "Expected forms by place"): the part is the whole reading, whatever of it the window has, and nothing of the reading lies before its part.
+// its own" (01 "Expected forms by place"): the part is all of the reading in this month, whatever of it the window has. What lies before the part, and what the
+// whole reading weighs, its spread says.
 fn add_reading(
     x: Reading,
     curve: &[u32],
@@ -75,17 +67,12 @@ fn add_reading(
     let begin = later(a, start);
     let end = earlier(b, start + hours);
     if begin < end {
-        let low = place(x.party, hours, begin - start);
-        let high = place(x.party, hours, end - start);
-        let whole = weight_between(beginnings, a, b);
-        let skipped = weight_between(beginnings, a, begin);
-        let spread = Spread {
-            e_wh: x.e_wh as u64,
-            before: 0,
-            whole: whole,
-        };
+        let low = slot(x.party, hours, begin - start);
+        let high = slot(x.party, hours, end - start);
+        let own = month_series::weight_between(beginnings, a, b);
+        let skipped = month_series::weight_between(beginnings, a, begin);
         periodise::add(
-            spread,
+            month_series::spread_of(x, own),
             &curve[a..b],
             begin - a,
             skipped,
@@ -94,7 +81,7 @@ fn add_reading(
     }
 }
 
-// The window: all readings.
+// The window: all readings, each behind the bytes of the one before it.
 pub fn window(
     file: &[u8],
     s: Sections,
@@ -109,10 +96,12 @@ pub fn window(
 {
     clear(out);
     let readings = s.readings;
+    let mut place = s.readings_at;
     let mut j = 0;
     while j < readings {
-        let x = file_fields::reading(file, s, j);
+        let x = file_fields::reading(file, place);
         add_reading(x, curve, beginnings, start, hours, out);
+        place += record::reading_size(x);
         j += 1;
     }
 }

@@ -4,8 +4,7 @@ use mathlib.Core.Path.{_≡_, sym, _∙_, ap}
 use Prim.Native.Nat.{ℕ, _+_, _*_, _/_, _%_, _<_, _≤_, _^_}
 use native.Mathlib.Nat.{div-add-mod', mul-add-mod-self-right, mul-le-mul, mod-lt}
 use native.Mathlib.Omega.{arith}
-use Rattle.rules.specs.Limits.{greatestEnergy}
-use Rattle.periodise.specs.Growth.{greatestWhole}
+use Rattle.rules.specs.Limits.{greatestEnergy, greatestWhole}
 
 pub by-digits : (a high low digit m : ℕ) → (a * high % m * digit + a * low) % m ≡ a * (high * digit + low) % m
 by-digits a high low digit m =

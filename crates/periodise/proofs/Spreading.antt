@@ -9,9 +9,11 @@ use lib.ListN.{length, set}
 use lib.Seq.{getD-set-other}
 use Rattle.rules.specs.Words.{sum, at, figures}
 use Rattle.rules.proofs.Loops.{Filling, fill-start, fill-next, fill-end}
-use Rattle.rules.proofs.Sums.{sum-member}
-use Rattle.periodise.specs.Growth.{growthFrom, grownFrom, Within, Part, Turning, Turned, Room, greatestWhole}
-use Rattle.periodise.proofs.Growth.{sum-rises, growth-is, rest-is}
+use Rattle.rules.specs.Limits.{greatestWhole}
+use Rattle.rules.specs.Periodised.{periodisedFigure}
+use Rattle.rules.proofs.Sums.{sum-member, sum-rises}
+use Rattle.periodise.specs.Growth.{grownFrom, Within, Part, Turning, Turned, Room}
+use Rattle.periodise.proofs.Growth.{growth-is, rest-is}
 
 -- before the i-th of the reading's hours
 pub record Standing (e before whole : ℕ) (weight : ℕ → ℕ) (divisor left i : ℕ) : Type 0 where
@@ -39,7 +41,7 @@ module _ {e before whole : ℕ} {weight : ℕ → ℕ} {divisor : ℕ} where
 
     module _ {wh rest : ℕ} (t : Turned e (weight i) left divisor wh rest) where
       -- the hour's figure is the growth
-      pub turn-gives : wh ≡ growthFrom e before whole weight i
+      pub turn-gives : wh ≡ periodisedFigure e before whole weight i
       turn-gives =
           t .figure ∙ ap (λ (x : ℕ). (x + e * weight i) / divisor) (s .kept)
           ∙ ap (λ (x : ℕ). (e * (before + sum i weight) % x + e * weight i) / x) (s .divides)

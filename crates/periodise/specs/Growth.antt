@@ -1,24 +1,16 @@
--- "After each hour the reading's sum so far is E x (weights so far) / S, rounded down, and the hour's figure is the growth" (01 "Periodised
--- consumption"), told of a part of the curve: hours with a weight before them, out of the weight of the whole.
+-- "the hour's figure is the growth" (01 "Periodised consumption"; 02, W3), told of a part of the curve: hours with a weight before them, out of the weight of the
+-- whole (`periodisedFigure` of the rules). What the core asks and gives.
 use mathlib.Core.List.{List}
 use mathlib.Core.Path.{_≡_}
-use Prim.Native.Nat.{ℕ, suc, _+_, _-_, _*_, _≤_, _<_, _^_, _/_, _%_}
+use Prim.Native.Nat.{ℕ, _+_, _*_, _≤_, _<_, _^_, _/_, _%_}
 use lib.ListN.{length}
-use Rattle.rules.specs.Limits.{greatestCurveNumber, greatestEnergy, mostWeights}
-use Rattle.rules.specs.Periodised.{sumSoFar}
+use Rattle.rules.specs.Limits.{greatestEnergy, greatestWhole}
+use Rattle.rules.specs.Periodised.{periodisedFigure}
 use Rattle.rules.specs.Words.{sum, at}
-
--- the growth at the k-th hour of a part with `before` in front of it, of `whole` in all; with 0 and S it is the rules' figure (law `whole-growth`)
-unfoldable pub growthFrom : ℕ → ℕ → ℕ → (ℕ → ℕ) → ℕ → ℕ
-growthFrom e before whole weight k = sumSoFar e (before + sum (suc k) weight) whole - sumSoFar e (before + sum k weight) whole
 
 -- what a lent hour held already, and the growth at the part's hour that it is lent for: the k-th behind the first `skip`
 unfoldable pub grownFrom : List ℕ → ℕ → ℕ → ℕ → (ℕ → ℕ) → ℕ → ℕ → ℕ
-grownFrom old e before whole weight skip k = at old k + growthFrom e before whole weight (skip + k)
-
--- "1 to 8,784 hours" of curve numbers of "at most 1,000,000,000": no whole is heavier
-abbrev pub greatestWhole : ℕ
-greatestWhole = mostWeights * greatestCurveNumber
+grownFrom old e before whole weight skip k = at old k + periodisedFigure e before whole weight (skip + k)
 
 -- Hours that a reading is spread over: E and the whole are within the paper's limits, and the hours lie inside the whole.
 pub record Within (e before whole : ℕ) (weight : ℕ → ℕ) (hours : ℕ) : Type 0 where

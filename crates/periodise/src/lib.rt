@@ -3,8 +3,8 @@
 ghost use mathlib.Core.Path.{_≡_};
 ghost use Prim.Native.Nat.{_*_, _%_, _<_, _≤_, max};
 ghost use lib.ListN.{length};
-ghost use Rattle.periodise.specs.Growth.{grownFrom, greatestWhole, Part, Turning, Turned, Room};
-ghost use Rattle.rules.specs.Limits.{greatestEnergy};
+ghost use Rattle.periodise.specs.Growth.{grownFrom, Part, Turning, Turned, Room};
+ghost use Rattle.rules.specs.Limits.{greatestEnergy, greatestWhole};
 ghost use Rattle.rules.specs.Words.{sum, figures, at};
 
 fn wide(x: u32) -> u64

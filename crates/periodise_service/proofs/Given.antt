@@ -22,14 +22,14 @@ module _ (e : ℕ) (weights : List ℕ) {before : List ℕ} {r : Answer} {after 
   given = p .contents ∙ ap (λ (a : Answer). afterwards (said a) (periodisationFigures e weights) before) done
 
   -- the figure of each hour
-  pub given-at : (k : ℕ) → k < length weights → at after k ≡ periodisedFigure e (length weights) (at weights) k
+  pub given-at : (k : ℕ) → k < length weights → at after k ≡ periodisedFigure e 0 (sum (length weights) (at weights)) (at weights) k
   unfolding at periodisationFigures
-  given-at k b = ap (λ (l : List ℕ). at l k) given ∙ figures-at (length weights) (periodisedFigure e (length weights) (at weights)) k 0 b
+  given-at k b = ap (λ (l : List ℕ). at l k) given ∙ figures-at (length weights) (periodisedFigure e 0 (sum (length weights) (at weights)) (at weights)) k 0 b
 
   -- THE SERVICE'S FIGURES ADD UP TO E where S is positive
   pub given-adds-up-to-E : 0 < sum (length weights) (at weights) → sum (length weights) (at after) ≡ e
-  given-adds-up-to-E some = sum-cong (length weights) given-at ∙ figures-add-up-to-E e (length weights) (at weights) some
+  given-adds-up-to-E some = sum-cong (length weights) given-at ∙ figures-add-up-to-E e (length weights) (at weights) (inr some)
 
   -- "With E = 0 and S = 0 every figure is 0."
   pub given-nothing : sum (length weights) (at weights) ≡ 0 → (k : ℕ) → k < length weights → at after k ≡ 0
-  given-nothing none k b = given-at k b ∙ nothing-over-nothing e (length weights) (at weights) k (inr none)
+  given-nothing none k b = given-at k b ∙ nothing-over-nothing e 0 (sum (length weights) (at weights)) (at weights) k (inr none)

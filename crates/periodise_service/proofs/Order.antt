@@ -12,20 +12,20 @@ use Rattle.answer.specs.declared.Answer.{Answer}
 use Rattle.answer.specs.declared.Answer.the-variants.{Done, Refused}
 use Rattle.rules.specs.Limits.{greatestCurveNumber, greatestEnergy, mostWeights}
 use Rattle.rules.specs.Refusals.{curveTooLarge, spanFault, energyTooLarge, wrongLength, Verdict, accepted, refused, unless, andThen, first}
+use Rattle.rules.specs.Periodised.{periodisedFigure}
 use Rattle.rules.specs.Refusals as R
 use Rattle.rules.specs.Services.{periodisationChecks, periodisationFigures, eachAt, checkAt}
 use Rattle.rules.specs.Words.{sum, at, figures, within, atMost}
 use Rattle.answer.proofs.Checks.{refused-stops, done-passes}
-use Rattle.periodise.specs.Growth.{growthFrom, Within}
-use Rattle.periodise.proofs.Growth.{whole-growth, sum-bound}
+use Rattle.periodise.specs.Growth.{Within}
 use Rattle.periodise_service.specs.Follow.{followCheck}
-use Rattle.rules.proofs.Loops.{figures-cong}
 use Rattle.rules.proofs.Refusals.{in-turn-exactly, unless-exactly}
+use Rattle.rules.proofs.Sums.{sum-at-most}
 
 -- the weights of a list in which none is refused add up to at most so much
-sum-at-most : (l : List ℕ) (most : ℕ) (r : R.Refusal) → eachAt l (atMost most) r ≡ accepted → sum (length l) (at l) ≤ length l * most
+weights-at-most : (l : List ℕ) (most : ℕ) (r : R.Refusal) → eachAt l (atMost most) r ≡ accepted → sum (length l) (at l) ≤ length l * most
 unfolding eachAt checkAt atMost
-sum-at-most l most r h = sum-bound (length l) (at l) most each
+weights-at-most l most r h = sum-at-most (length l) (at l) most each
   where
     each : (i : ℕ) → i < length l → at l i ≤ most
     each i b =
@@ -102,12 +102,11 @@ module _ {e : ℕ} {weights : List ℕ} {lent s : ℕ} (k : Summed e weights len
       record {
         energy = k .shape .fits;
         inside = omega (arith, k .total);
-        most = omega (arith, k .total, k .shape .few, sum-at-most weights greatestCurveNumber curveTooLarge (k .each));
+        most = omega (arith, k .total, k .shape .few, weights-at-most weights greatestCurveNumber curveTooLarge (k .each));
       }
 
   -- what it gives is the service's figures
-  pub core-gives : {out : List ℕ} → out ≡ figures (length weights) (growthFrom e 0 s (at weights)) → out ≡ periodisationFigures e weights
+  pub core-gives : {out : List ℕ} → out ≡ figures (length weights) (periodisedFigure e 0 s (at weights)) → out ≡ periodisationFigures e weights
   unfolding periodisationFigures
   core-gives g =
-      g ∙ ap (λ (x : ℕ). figures (length weights) (growthFrom e 0 x (at weights))) (k .total)
-      ∙ figures-cong (length weights) (λ i b. whole-growth e (length weights) (at weights) i)
+      g ∙ ap (λ (x : ℕ). figures (length weights) (periodisedFigure e 0 x (at weights))) (k .total)

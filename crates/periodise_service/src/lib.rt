@@ -5,9 +5,10 @@ use answer::Refusal;
 ghost use mathlib.Core.Path.{_≡_};
 ghost use lib.ListN.{length};
 ghost use Rattle.answer.specs.Said.{said};
-ghost use Rattle.periodise.specs.Growth.{growthFrom, Within};
+ghost use Rattle.periodise.specs.Growth.{Within};
 ghost use Rattle.periodise_service.specs.Follow.{followCheck};
 ghost use Rattle.periodise_service.specs.Promised.{Promised};
+ghost use Rattle.rules.specs.Periodised.{periodisedFigure};
 ghost use Rattle.rules.specs.Words.{figures, at};
 
 // The growths of a reading whose hours all stand here. `periodise::add` goes the same way hour by hour; its figures are added as ones of 64 bits, these are
@@ -15,7 +16,7 @@ ghost use Rattle.rules.specs.Words.{figures, at};
 fn spread(e: u64, s: u64, weights: &[u32], out: &mut [u32])
     requires { ⌜ Within e 0 s (at (now weights)) (length (now weights)) ⌝ }
     requires { ⌜ length (now out) ≡ length (now weights) ⌝ }
-    ensures { λ _. ⌜ now (out .exit) ≡ figures (length (now (weights .entry))) (growthFrom e 0 s (at (now (weights .entry)))) ⌝ }
+    ensures { λ _. ⌜ now (out .exit) ≡ figures (length (now (weights .entry))) (periodisedFigure e 0 s (at (now (weights .entry)))) ⌝ }
 {
     let divisor = periodise::divisor_of(s);
     let mut left = 0;

@@ -8,7 +8,7 @@ use native.Mathlib.Nat.{mul-zero, div-add-mod', mul-add-div-right, add-assoc, ad
 use native.Mathlib.Omega.{arith}
 use Rattle.rules.specs.Periodised.{sumSoFar, periodisedFigure, partOfE}
 use Rattle.rules.specs.Words.{sum}
-use Rattle.rules.proofs.Sums.{sum-split}
+use Rattle.rules.proofs.Sums.{sum-cong, sum-split}
 
 -- a quotient never falls as the number divided grows
 pub quotient-rises : (s : ℕ) {a b : ℕ} → a ≤ b → a / s ≤ b / s
@@ -69,6 +69,13 @@ module _ (e before whole : ℕ) (weight : ℕ → ℕ) where
   pub nothing-over-nothing : (k : ℕ) → (e ≡ 0) ⊎ (whole ≡ 0) → periodisedFigure e before whole weight k ≡ 0
   unfolding periodisedFigure sumSoFar
   nothing-over-nothing k c = ⊎-elim (λ (z : e ≡ 0). simp (z, zero-mul, zero-div)) (λ (z : whole ≡ 0). simp (z, div-zero)) c
+
+-- only the weights up to the hour count
+pub figure-cong : (e before whole : ℕ) {f g : ℕ → ℕ} (k : ℕ) → ((i : ℕ) → i ≤ k → f i ≡ g i) → periodisedFigure e before whole f k ≡ periodisedFigure e before whole g k
+unfolding periodisedFigure
+figure-cong e before whole k same =
+    ap₂ (λ (x y : ℕ). sumSoFar e (before + x) whole - sumSoFar e (before + y) whole) (sum-cong (suc k) (λ i b. same i (omega arith)))
+    (sum-cong k (λ i b. same i (omega arith)))
 
 -- ALL OF E comes out where nothing lies before and the hours weigh the whole
 pub part-is-all : (e whole : ℕ) → (e ≡ 0) ⊎ (0 < whole) → partOfE e 0 whole whole ≡ e

@@ -22,24 +22,11 @@ use Rattle.rules.specs.Refusals.{accepted, unless, first, inTurn}
 use Rattle.rules.specs.Services.{checkAt, eachAt, periodisationChecks, periodisationFigures}
 use Rattle.rules.specs.Words.{sum, figures, at, within, atMost}
 use Rattle.rules.proofs.Loops.{figures-length, figures-at}
-use Rattle.rules.proofs.Periodised.{part-is-all, no-part, parts-add-up, part-of-whole}
-use Rattle.rules.proofs.Readings.{reading-adds-up}
+use Rattle.rules.proofs.Periodised.{figure-cong, part-is-all, no-part, parts-add-up, part-of-whole}
+use Rattle.rules.proofs.Readings.{follows-is, reading-adds-up}
 use Rattle.rules.proofs.Refusals.{accepted-exactly, in-turn-exactly, unless-exactly}
 use Rattle.rules.proofs.Sums.{sum-cong, sum-rises, sum-split, sum-at-most, sum-member}
 use Rattle.rules.proofs.Whole.{both-pass, one-passes, within-is}
-
--- figures by weights that are the same
-pub figure-cong : (e before whole : ℕ) {f g : ℕ → ℕ} (k : ℕ) → ((i : ℕ) → i ≤ k → f i ≡ g i) → periodisedFigure e before whole f k ≡ periodisedFigure e before whole g k
-unfolding periodisedFigure
-figure-cong e before whole k same =
-    ap₂ (λ (x y : ℕ). sumSoFar e (before + x) whole - sumSoFar e (before + y) whole) (sum-cong (suc k) (λ i b. same i (omega arith)))
-    (sum-cong k (λ i b. same i (omega arith)))
-
--- 13 does not apply: E is 0, or there is a weight
-pub follows-is : (e whole : ℕ) → followsWhole e whole ≡ true → (e ≡ 0) ⊎ (0 < whole)
-unfolding followsWhole
-follows-is e whole t =
-    ⊎-elim (λ (z : eqb e 0 ≡ true). inl (eqb-true e 0 z)) (λ (p : leb 1 whole ≡ true). inr (leb-true 1 whole p)) (one-passes (eqb e 0) (leb 1 whole) t)
 
 -- WHAT THE PLANNER'S CHECKS SAY
 pub record Plannable (r : LongReading) : Type 0 where

@@ -8,8 +8,9 @@ use native.Mathlib.Omega.{arith}
 use borrow.Author.Tests.{le-leb, lt-leb, lt-ltb, le-ltb, leb-true, eqb-true}
 use lib.Dec.{eqb, leb, ltb}
 use lib.ListN.{length}
+use Rattle.rules.specs.Limits.{greatestWhole}
 use Rattle.rules.specs.Month.{readingAt, weightOf, S, weightBefore, wholeWeight, wholeOf, readingFigure, figureFor, periodised, monthPeriodised, energyOf, energyFor}
-use Rattle.rules.specs.Month.{readEnergy, followsWhole, readingChecks, readingVerdict, monthChecks, monthVerdict}
+use Rattle.rules.specs.Month.{readEnergy, weightsFit, followsWhole, readingChecks, readingVerdict, monthChecks, monthVerdict}
 use Rattle.rules.specs.MonthFile.{MonthFile, H, P}
 use Rattle.rules.specs.Periodised.{periodisedFigure, partOfE}
 use Rattle.rules.specs.Record.{Over, thisMonth, manyMonths, Reading}
@@ -19,7 +20,7 @@ use Rattle.rules.specs.Words.{sum}
 use Rattle.rules.proofs.Periodised.{figures-add-up, part-is-all}
 use Rattle.rules.proofs.Refusals.{accepted-exactly, in-turn-exactly, unless-exactly}
 use Rattle.rules.proofs.Sums.{sum-cong, sum-split, sum-swap, sum-zero}
-use Rattle.rules.proofs.Whole.{Whole, ReadingRight, every-at, one-passes}
+use Rattle.rules.proofs.Whole.{Whole, ReadingRight, every-at, both-pass, one-passes}
 
 -- figures that stand in the hours from a to before b, and nowhere else: over h hours they add up to what they add up to over their own
 module _ (a b h : ℕ) (f : ℕ → ℕ) (rises : a ≤ b) (within : b ≤ h) where
@@ -63,23 +64,47 @@ module _ (m : MonthFile) (r : Reading) where
       sum-placed (r .a) (r .b) (H m) own-figures (omega arith) within ∙ figures-add-up (r .e) (weightBefore (r .over)) (wholeOf m r) (weightOf m r) (r .b - r .a)
       ∙ part-is-energy (r .e) (S m r) (r .over) c
 
+-- WHAT 18 AND 13 SAY OF A READING THAT THEY DO NOT REFUSE
+pub weights-fit : (before own whole : ℕ) → weightsFit before own whole ≡ true → (before + own ≤ whole) × (whole ≤ greatestWhole)
+unfolding weightsFit
+weights-fit before own whole t =
+    let both = both-pass (leb (before + own) whole) (leb whole greatestWhole) t in
+    (leb-true (before + own) whole (both .0), leb-true whole greatestWhole (both .1))
+
+pub follows-is : (e whole : ℕ) → followsWhole e whole ≡ true → (e ≡ 0) ⊎ (0 < whole)
+unfolding followsWhole
+follows-is e whole t =
+    ⊎-elim (λ (z : eqb e 0 ≡ true). inl (eqb-true e 0 z)) (λ (p : leb 1 whole ≡ true). inr (leb-true 1 whole p)) (one-passes (eqb e 0) (leb 1 whole) t)
+
+-- of reading j, whose checks accept
+module _ (m : MonthFile) (j : ℕ) (ok : readingVerdict m j ≡ accepted) where
+  pub reading-fits : weightsFit (weightBefore (readingAt m j .over)) (S m (readingAt m j)) (wholeOf m (readingAt m j)) ≡ true
+  unfolding readingVerdict readingChecks
+  reading-fits = unless-exactly _ _ _ .0 (accepted-exactly (readingChecks m (readingAt m j) j) .0 ok .0)
+
+  pub reading-follows : (readingAt m j .e ≡ 0) ⊎ (0 < wholeOf m (readingAt m j))
+  unfolding readingVerdict readingChecks
+  reading-follows = follows-is _ _ (unless-exactly _ _ _ .0 (accepted-exactly (readingChecks m (readingAt m j) j) .0 ok .1 .0))
+
+-- A READING IN THIS MONTH IS ONE OVER MONTHS with nothing before this month and its own weight as the whole: 04 and 08 have one figure and one rule
+pub one-for-both : (m : MonthFile) (who a b e t : ℕ)
+    → readingFigure m (record { party = who; a = a; b = b; e = e; over = thisMonth }) t
+    ≡ readingFigure m
+    (record { party = who; a = a; b = b; e = e; over = manyMonths 0 (S m (record { party = who; a = a; b = b; e = e; over = thisMonth })) }) t
+unfolding readingFigure weightBefore wholeOf wholeWeight weightOf
+one-for-both m who a b e t = refl
+
 module _ (m : MonthFile) (whole : Whole m) (followed : (j : ℕ) → j < length (m .readings) → readingVerdict m j ≡ accepted) where
   its-span : (j : ℕ) → j < length (m .readings) → ReadingRight (H m) (P m) (readingAt m j)
   unfolding readingAt
   its-span j b = every-at (ReadingRight (H m) (P m)) (m .readings) (whole .readings) j _ b
-
-  no-13 : (j : ℕ) → j < length (m .readings) → (readingAt m j .e ≡ 0) ⊎ (0 < wholeOf m (readingAt m j))
-  unfolding readingVerdict readingChecks followsWhole
-  no-13 j b =
-      ⊎-elim (λ (z : eqb (readingAt m j .e) 0 ≡ true). inl (eqb-true _ _ z)) (λ (p : leb 1 (wholeOf m (readingAt m j)) ≡ true). inr (leb-true _ _ p))
-      (one-passes _ _ (unless-exactly _ _ _ .0 (accepted-exactly (readingChecks m (readingAt m j) j) .0 (followed j b) .1 .0)))
 
   of-one : (i j : ℕ) → j < length (m .readings) → sum (H m) (λ t. figureFor m t i j) ≡ energyFor m i j
   unfolding figureFor energyFor
   of-one i j b = go (eqb (readingAt m j .party) i)
     where
       go : (t : Bool) → sum (H m) (λ k. cond t (readingFigure m (readingAt m j) k) 0) ≡ cond t (energyOf (readingAt m j .over) (readingAt m j .e) (S m (readingAt m j))) 0
-      go true = reading-adds-up m (readingAt m j) (its-span j b .1) (its-span j b .2) (no-13 j b)
+      go true = reading-adds-up m (readingAt m j) (its-span j b .1) (its-span j b .2) (reading-follows m j (followed j b))
       go false = sum-zero (H m) (λ k l. refl)
 
   -- A PARTY'S MONTH OF PERIODISED FIGURES IS THE SUM OF THE E OF ITS 04 READINGS AND OF THIS MONTH'S PARTS OF ITS 08 READINGS

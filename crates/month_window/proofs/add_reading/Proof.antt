@@ -10,8 +10,8 @@ use Rattle.month_window.proofs.add_reading.Tie as tie
 abbrev asked : tie.After-earlier → tie.Start
 asked c = c .before .before .before .before .before .before .before
 
-abbrev weighed : tie.After-add-arg2 → tie.After-weight-between2
-weighed c = c .before .before .before
+abbrev spread : tie.After-add-arg2 → tie.After-spread-of
+spread c = c .before .before
 
 abbrev lent : tie.After-slice-known2 → tie.After-add-arg2
 lent c = c .before .before .before
@@ -31,17 +31,17 @@ add-earlier c = search needs
 earlier-requires : tie.Need-earlier-requires
 earlier-requires c κs = search needs
 
-sub-place : tie.Need-sub-place
-sub-place c = search needs
+sub-slot : tie.Need-sub-slot
+sub-slot c = search needs
 
-place-requires : tie.Need-place-requires
-place-requires c κs = search needs
+slot-requires : tie.Need-slot-requires
+slot-requires c κs = search needs
 
-sub-place-2 : tie.Need-sub-place-2
-sub-place-2 c = search needs
+sub-slot-2 : tie.Need-sub-slot-2
+sub-slot-2 c = search needs
 
-place-requires-2 : tie.Need-place-requires-2
-place-requires-2 c κs = search needs
+slot-requires-2 : tie.Need-slot-requires-2
+slot-requires-2 c κs = search needs
 
 weight-between-requires : tie.Need-weight-between-requires
 weight-between-requires c κs = ordered (asked (c .before .before .before) .pre) (omega arith) (omega arith)
@@ -49,8 +49,8 @@ weight-between-requires c κs = ordered (asked (c .before .before .before) .pre)
 weight-between-requires-2 : tie.Need-weight-between-requires-2
 weight-between-requires-2 c κs = ordered (asked (c .before .before .before .before) .pre) (omega arith) (omega arith)
 
-cast-t19 : tie.Need-cast-t19
-cast-t19 c = search needs
+spread-of-requires : tie.Need-spread-of-requires
+spread-of-requires c κs = search needs
 
 mul-add : tie.Need-mul-add
 mul-add c = search needs
@@ -68,7 +68,11 @@ sub-add-2 : tie.Need-sub-add-2
 sub-add-2 c = search needs
 
 mul-add-2 : tie.Need-mul-add-2
-mul-add-2 c = search needs
+mul-add-2 c =
+    let low = c .before .before .before .before .before in
+    let some = low .before in
+    let start = asked (some .before) in
+    omega (arith, low .slot .ensures, start .pre .places, some .if1 .taken, some .before .earlier .ensures, start .good .1 .1 .1 .1 .1 .0 .1)
 
 sub-add-3 : tie.Need-sub-add-3
 sub-add-3 c = search needs
@@ -81,28 +85,30 @@ part-add-end-2 c = search needs
 
 add-requires : tie.Need-add-requires
 add-requires c κs =
-    let w = weighed c in
+    let spread = spread c in
+    let w = spread .before in
     let all = w .before in
     let high = all .before in
     let low = high .before in
     let some = low .before in
     let cut = some .before in
     run-asked (asked cut .pre) (cut .before .later .ensures) (cut .earlier .ensures) (some .if1 .taken) (all .weight-between .ensures) (w .weight-between2 .ensures)
-    (low .place .ensures) (high .place2 .ensures)
+    (low .slot .ensures) (high .slot2 .ensures) (spread .spread-of .ensures)
 
 same-length : tie.Need-same-length
 same-length c = search needs
 
 returns : tie.Need-returns
 returns c =
-    let w = weighed (lent c) in
+    let spread = spread (lent c) in
+    let w = spread .before in
     let all = w .before in
     let high = all .before in
     let low = high .before in
     let some = low .before in
     let cut = some .before in
     run-added (asked cut .pre) (cut .before .later .ensures) (cut .earlier .ensures) (some .if1 .taken) (all .weight-between .ensures) (w .weight-between2 .ensures)
-    (low .place .ensures) (high .place2 .ensures) (c .before .before .add .ensures)
+    (low .slot .ensures) (high .slot2 .ensures) (spread .spread-of .ensures) (c .before .before .add .ensures)
 
 returns-2 : tie.Need-returns-2
 returns-2 c =
@@ -118,13 +124,13 @@ add-reading-spec =
     later-requires
     add-earlier
     earlier-requires
-    sub-place
-    place-requires
-    sub-place-2
-    place-requires-2
+    sub-slot
+    slot-requires
+    sub-slot-2
+    slot-requires-2
     weight-between-requires
     weight-between-requires-2
-    cast-t19
+    spread-of-requires
     mul-add
     sub-add
     part-add-start

@@ -6,14 +6,14 @@ use borrow.Author.Needs.{needs}
 use lib.ListN.{length}
 use Rattle.rules.specs.Words.{at}
 use Rattle.rules.proofs.Loops.{Filling, fill-start, fill-next, fill-end}
-use Rattle.periodise.specs.Growth.{growthFrom}
+use Rattle.rules.specs.Periodised.{periodisedFigure}
 use Rattle.periodise.proofs.Spreading.{Standing, stand-first, turn-asks, turn-gives, stand-next}
 use Rattle.periodise_service.proofs.spread.Statement.{statement}
 use Rattle.periodise_service.proofs.spread.Tie as tie
 
 abbrev Inv-loop : tie.InvT-loop
 Inv-loop e s weights out₀ divisor left₀ i₀ out left i =
-    Standing e 0 s (at weights) divisor left i × Filling (growthFrom e 0 s (at weights)) (length weights) out i
+    Standing e 0 s (at weights) divisor left i × Filling (periodisedFigure e 0 s (at weights)) (length weights) out i
 
 abbrev μ-loop : tie.MeasureT-loop
 μ-loop e s weights out₀ divisor left₀ i₀ out left i = length weights - i

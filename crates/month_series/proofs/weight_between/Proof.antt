@@ -1,9 +1,9 @@
--- `month_window::weight_between` meets its contract: it is the difference of two beginnings, of which the later is no less. Assumes nothing.
+-- `month_series::weight_between` meets its contract: it is the difference of two beginnings, of which the later is no less. Assumes nothing.
 use native.Mathlib.Omega.{arith}
 use borrow.Author.Needs.{needs}
 use Rattle.rules.specs.Words.{at}
-use Rattle.month_window.proofs.weight_between.Statement.{statement}
-use Rattle.month_window.proofs.weight_between.Tie as tie
+use Rattle.month_series.proofs.weight_between.Statement.{statement}
+use Rattle.month_series.proofs.weight_between.Tie as tie
 
 mul-result : tie.Need-mul-result
 mul-result c = search needs
