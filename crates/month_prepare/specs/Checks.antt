@@ -1,8 +1,8 @@
 -- The refusals after a file is read, up to the readings (01 "Refusal numbers"; 02, W1): 17; "Then 6; then the fixed hours in order, each 7, 8, 9; the refixed
--- hours likewise; 10 by hour; 13 by reading"; and what is made on the way. The setting decides the verdict; no figure depends on it.
+-- hours likewise; 10 by hour; 13 by reading" (02, W3: 18 and 13); and what is made on the way. The setting decides the verdict; no figure depends on it.
 use mathlib.Core.List.{List}
 use mathlib.Core.Path.{_≡_}
-use Prim.Native.Nat.{ℕ, suc, _+_, _-_, _≤_, _<_}
+use Prim.Native.Nat.{ℕ, suc, _+_, _-_, _<_}
 use lib.IntN.{pos}
 use lib.ListN.{length, replicate, take, drop}
 use Rattle.answer.specs.Said.{said}
@@ -18,7 +18,7 @@ use Rattle.setting.specs.declared.Setting.{Setting}
 use Rattle.month_series.specs.Series.{residualAt, judgedVerdict, beginningsOf}
 use Rattle.month_series.specs.declared.Judged.{Judged}
 use Rattle.month_series.specs.declared.Judged.the-variants.{Figures}
-use Rattle.rules.specs.Limits.{greatestW, greatestCurveNumber, mostHours, mostParties}
+use Rattle.rules.specs.Limits.{greatestW, mostHours, mostParties}
 use Rattle.rules.specs.Month.{monthOf, shareOf, monthW, fixedWh, curve, estimatedHours, refixedVerdict, hourVerdict, curveVerdict, readingVerdict}
 use Rattle.rules.specs.MonthFile.{MonthFile, H, P}
 use Rattle.rules.specs.Refusals.{wOutOfRange, Verdict, accepted, unless, andThen, inTurn}
@@ -40,7 +40,7 @@ weighedVerdict setting m =
 unfoldable pub seriesVerdict : R.Setting → MonthFile → Verdict
 seriesVerdict setting m = andThen (weighedVerdict setting m) (hoursVerdict m)
 
--- "10 by hour; 13 by reading"
+-- "10 by hour; 13 by reading", W3: and 18 before 13 of the same reading
 unfoldable pub curveReadingsVerdict : MonthFile → Verdict
 curveReadingsVerdict m = andThen (inTurn (H m) (curveVerdict m)) (inTurn (length (m .readings)) (readingVerdict m))
 
@@ -108,7 +108,7 @@ pub record Making (m : MonthFile) (r : Made) (fixed refixed curveNumbers beginni
   pub fixed-is : fixed ≡ Words.figures (H m) (fixedWh m)
   pub refixed-is : refixed ≡ Words.figures (length (m .refixed)) (residualAt (m .refixed))
   pub curve-is : curveNumbers ≡ Words.figures (H m) (curve m)
-  pub curve-fits : (t : ℕ) → t < H m → curve m t ≤ greatestCurveNumber
+  pub readings-pass : (j : ℕ) → j < length (m .readings) → readingVerdict m j ≡ accepted
   pub beginnings-are : beginnings ≡ beginningsOf m
 
 pub record MadeIs (setting : Setting) (m : MonthFile) (r : Made) (fixed refixed curveNumbers beginnings : List ℕ) : Type 0 where

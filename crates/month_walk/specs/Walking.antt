@@ -17,10 +17,10 @@ use Rattle.month_walk.specs.declared.Held.{Held}
 use Rattle.month_walk.specs.declared.Opened.{Opened}
 use Rattle.month_walk.specs.declared.Walk.{Walk}
 use Rattle.month_walk.specs.Hours.{DistributedIs, Carried}
-use Rattle.rules.specs.Limits.{greatestCurveNumber}
-use Rattle.rules.specs.Month.{monthOf, shareOf, appliedWh, curve, periodised, periodisedVerdict}
+use Rattle.rules.specs.Month.{monthOf, shareOf, appliedWh, curve, periodised, readingVerdict, periodisedVerdict}
 use Rattle.rules.specs.MonthFile.{MonthFile, H, P}
 use Rattle.rules.specs.Refusals.{accepted, inTurn}
+use Rattle.rules.specs.Refusals as R
 use Rattle.rules.specs.Words.{figures}
 use Rattle.rules.proofs.Month.{Judged}
 
@@ -33,7 +33,7 @@ pub record WindowsKnown (file : List ℕ) (s : Sections) (curveNumbers beginning
   pub accepted : Accepted file s
   pub judged : Judged (monthOf file)
   pub curve-is : curveNumbers ≡ figures (H (monthOf file)) (curve (monthOf file))
-  pub curve-fits : (t : ℕ) → t < H (monthOf file) → curve (monthOf file) t ≤ greatestCurveNumber
+  pub readings-pass : (j : ℕ) → j < length (monthOf file .readings) → readingVerdict (monthOf file) j ≡ R.accepted
   pub beginnings-are : beginnings ≡ beginningsOf (monthOf file)
 
 -- and what every hour is made of

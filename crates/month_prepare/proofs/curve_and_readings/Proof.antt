@@ -40,8 +40,8 @@ beginnings-requires c κs =
       ),
     )
 
-followed-requires : tie.Need-followed-requires
-followed-requires c κs =
+judge-readings-requires : tie.Need-judge-readings-requires
+judge-readings-requires c κs =
     let after-beginnings = c .before .before .before in
     let after-enum-told = after-beginnings .before .before .before in
     let after-curve = after-enum-told .before .before .before .before in
@@ -64,7 +64,7 @@ returns-2 c =
     let after-curve = after-enum-told .before .before .before .before in
     let start = after-curve .before .before .before .before .before .before in
     curve-known (start .pre) (after-curve .curve .ensures .answer) _ (after-curve .curve .ensures .contents) (after-enum-told .enum-told .given .1)
-    (after-beginnings .beginnings .ensures) (c .followed .result) (c .followed .ensures)
+    (after-beginnings .beginnings .ensures) (c .judge-readings .result) (c .judge-readings .ensures)
 
 pub curve-and-readings-spec : {M : Type 1} → statement M
 curve-and-readings-spec =
@@ -76,7 +76,7 @@ curve-and-readings-spec =
     same-length
     returns
     beginnings-requires
-    followed-requires
+    judge-readings-requires
     same-length-2
     same-length-3
     returns-2)
