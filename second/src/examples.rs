@@ -35,11 +35,9 @@ pub fn s1() -> Draft {
         [10_000_000, 12_500_000, 10_000_000],
     ];
     let series = |residuals: [i64; 3]| (0..3).map(|h| measured_hour(h, residuals[h])).collect();
-    let one_hour_reading = |party: usize, hour: usize| Reading {
-        party: party as u8,
-        a: hour as u16,
-        b: hour as u16 + 1,
-        e_wh: readings_wh[party][hour],
+    let one_hour_reading = |party: usize, hour: usize| {
+        let (a, e_wh) = (hour as u16, readings_wh[party][hour]);
+        Reading::of_month(party as u8, a, a + 1, e_wh)
     };
     Draft {
         heading: Heading {
@@ -114,20 +112,7 @@ fn fixed_d3(area: u16, month: u8) -> Draft {
         refixed: Vec::new(),
         // 2 and -1.5 øre per Wh: two of the amounts end on half an øre.
         prices: prices_of([2_000_000, -1_500_000]),
-        readings: vec![
-            Reading {
-                party: 0,
-                a: 0,
-                b: 2,
-                e_wh: 6,
-            },
-            Reading {
-                party: 2,
-                a: 1,
-                b: 2,
-                e_wh: 2,
-            },
-        ],
+        readings: vec![Reading::of_month(0, 0, 2, 6), Reading::of_month(2, 1, 2, 2)],
         end_count: None,
     }
 }
@@ -136,12 +121,7 @@ fn fixed_d3(area: u16, month: u8) -> Draft {
 /// and 0.5 øre, of which three øre are missing when they are rounded down, one of them by a tie. Refixation changed nothing.
 pub fn ore() -> Draft {
     let series: Vec<HourFlows> = vec![measured_hour(0, 10), measured_hour(1, 5)];
-    let one_hour_reading = |(party, hour, e_wh)| Reading {
-        party,
-        a: hour,
-        b: hour + 1,
-        e_wh,
-    };
+    let one_hour_reading = |(party, hour, e_wh)| Reading::of_month(party, hour, hour + 1, e_wh);
     let readings = [
         (0, 0, 3),
         (1, 0, 4),
@@ -340,12 +320,8 @@ fn realistic_readings(
         for span in 0..spans {
             let (a, b) = (span * hours / spans, (span + 1) * hours / spans);
             let drift = i128::from(random.between(-15, 15) + read_per_mille);
-            readings.push(Reading {
-                party: party as u8,
-                a: a as u16,
-                b: b as u16,
-                e_wh: (part_wh(party, a, b) * drift / 1000) as u32,
-            });
+            let e_wh = (part_wh(party, a, b) * drift / 1000) as u32;
+            readings.push(Reading::of_month(party as u8, a as u16, b as u16, e_wh));
         }
     }
     readings
