@@ -616,8 +616,7 @@ fn weights_fault(
     Number::TooMuchWeight.at(place)
 }
 
-/// Random hours, one of which is given weight. All readings become readings of 0 within this month, which need none and
-/// cannot have too much.
+/// Random hours, one of which is given weight, and readings that any weight is good for.
 fn span_with_weight(draft: &mut Draft, random: &mut Random) -> (usize, usize) {
     empty_readings(draft);
     let a = random.below(draft.fixed.len());
@@ -627,15 +626,20 @@ fn span_with_weight(draft: &mut Draft, random: &mut Random) -> (usize, usize) {
     (a, b)
 }
 
+/// Makes all readings readings of 0, which need no weight; the whole of those over several months is the largest there is,
+/// so that they cannot have too much.
 fn empty_readings(draft: &mut Draft) {
+    let largest = Weights {
+        before: 0,
+        whole: WHOLE_WEIGHT_MAX as u64,
+    };
     for reading in &mut draft.readings {
         reading.e_wh = 0;
-        reading.weights = None;
+        reading.weights = reading.weights.map(|_| largest);
     }
 }
 
-/// Adds a last reading with a positive E over a random span, and makes all before it readings of 0 within this month, which
-/// need no weight.
+/// Adds a last reading with a positive E over a random span, and makes all before it good for any weight.
 fn weightless_reading(draft: &mut Draft, random: &mut Random) -> Reading {
     empty_readings(draft);
     let a = random.below(draft.fixed.len());

@@ -1,14 +1,19 @@
 //! The stored examples: S1 of 01, a full month with realistic figures, a month with a silent hour, the case D3 of 01 as a
-//! month that can be worked out by hand, another such month before and after its refixation, and one for the whole øre.
+//! month that can be worked out by hand, another such month before and after its refixation, one for the whole øre, and three
+//! that one reading crosses.
 
 use crate::draft::{measured_hour, prices_of, Draft, DraftParty};
 use crate::gln::with_check_digit;
 use crate::limits::{STATUS_ESTIMATED, STATUS_MEASURED, STATUS_MISSING};
+use crate::make::curve;
+use crate::plan::plan;
 use crate::random::Random;
 use crate::record::{Heading, HourFlows, Reading};
 
 /// The names of the examples.
-pub const NAMES: [&str; 7] = ["s1", "full", "silent", "d3", "before", "after", "ore"];
+pub const NAMES: [&str; 10] = [
+    "s1", "full", "silent", "d3", "before", "after", "ore", "yearly1", "yearly2", "yearly3",
+];
 
 /// The month file of an example; None for an unknown name.
 pub fn example(name: &str) -> Option<Vec<u8>> {
@@ -20,6 +25,9 @@ pub fn example(name: &str) -> Option<Vec<u8>> {
         "before" => Some(before().bytes()),
         "after" => Some(after().bytes()),
         "ore" => Some(ore().bytes()),
+        "yearly1" => Some(yearly()[0].bytes()),
+        "yearly2" => Some(yearly()[1].bytes()),
+        "yearly3" => Some(yearly()[2].bytes()),
         _ => None,
     }
 }
@@ -144,6 +152,50 @@ pub fn ore() -> Draft {
         refixed: series,
         prices: prices_of([250_000, -500_000]),
         readings: readings.map(one_hour_reading).to_vec(),
+        end_count: None,
+    }
+}
+
+/// October to December 2016 in area 6, and a meter that is read from the middle of the first month to the middle of the
+/// last: 100 Wh over weights of 21 parts, 5, 12 and 4 of them in the months. Its supplier is the first of two in October;
+/// in November one of a lower GLN comes before it. The last supplier carries the loss.
+pub fn yearly() -> [Draft; 3] {
+    let mut months = [
+        month_of_wh(10, [40, 50, 30, 20]),
+        month_of_wh(11, [20, 40, 10, 50]),
+        month_of_wh(12, [30, 10, 60, 40]),
+    ];
+    months[0].parties = numbered_parties([0, 60, 40])[1..].to_vec();
+    months[0].heading.parties = 2;
+    months[0].heading.carrier = 1;
+    let curves = months.each_ref().map(curve).concat();
+    let planned = plan(100, 2, 2, &[0, 1, 1], &[4, 4, 4], &curves).expect("a good reading");
+    let whole_month = |party, e_wh| Reading::of_month(party, 0, 4, e_wh);
+    months[0].readings = vec![planned[0], whole_month(1, 56)];
+    months[1].readings = vec![whole_month(0, 12), planned[1], whole_month(2, 36)];
+    months[2].readings = vec![whole_month(0, 14), whole_month(2, 42), planned[2]];
+    months
+}
+
+/// A month of 2016 in area 6 with these residuals, which refixation did not change, at 1 øre per Wh, and without readings:
+/// three suppliers with a tenth, a half and two fifths of W, which is 100.
+fn month_of_wh(month: u8, residuals_wh: [i64; 4]) -> Draft {
+    let hours = residuals_wh.into_iter().enumerate();
+    let series: Vec<HourFlows> = hours.map(|(hour, wh)| measured_hour(hour, wh)).collect();
+    Draft {
+        heading: Heading {
+            area: 6,
+            year: 2016,
+            month,
+            hours: 4,
+            parties: 3,
+            carrier: 2,
+        },
+        parties: numbered_parties([10, 50, 40]),
+        fixed: series.clone(),
+        refixed: series,
+        prices: prices_of([1_000_000; 4]),
+        readings: Vec::new(),
         end_count: None,
     }
 }
