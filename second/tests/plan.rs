@@ -4,15 +4,13 @@
 
 mod common;
 
-use common::told;
-use second::draft::{measured_hour, prices_of, Draft, DraftParty};
+use common::{month_of, told};
 use second::examples::example;
-use second::gln::with_check_digit;
 use second::month::settle;
 use second::periodisation::{periodisation, periodised_wh};
 use second::plan::{plan, plan_lent};
 use second::random::Random;
-use second::record::{read_alone, write, Heading, HourFlows, Reading, Record};
+use second::record::{read_alone, write, Reading, Record};
 use second::refusal::Refusal;
 use second::setting::Setting;
 
@@ -363,30 +361,11 @@ fn w3_thirteen_months_of_8_784_hours() {
 }
 
 /// A month file whose curve is this, of 64 parties: W is 1,000,000, so that each residual is its curve number.
-fn month_with(curve: &[u32], reading: Reading) -> Draft {
-    let hours = curve.iter().enumerate();
-    let series: Vec<HourFlows> = hours.map(|(h, &wh)| measured_hour(h, wh.into())).collect();
-    Draft {
-        heading: Heading {
-            area: 7,
-            year: 2016,
-            month: 4,
-            hours: curve.len() as u16,
-            parties: 64,
-            carrier: 0,
-        },
-        parties: (0..64)
-            .map(|party| DraftParty {
-                gln: with_check_digit(party),
-                load_share_kwh: if party == 3 { 1_000_000 } else { 0 },
-            })
-            .collect(),
-        fixed: series.clone(),
-        refixed: series,
-        prices: prices_of(curve.iter().map(|_| 0)),
-        readings: vec![reading],
-        end_count: None,
-    }
+fn month_with(curve: &[u32], reading: Reading) -> Vec<u8> {
+    let mut shares_kwh = [0; 64];
+    shares_kwh[3] = 1_000_000;
+    let residuals_wh: Vec<i64> = curve.iter().map(|&number| number.into()).collect();
+    month_of(&shares_kwh, &residuals_wh, &[reading]).bytes()
 }
 
 /// A105: in a month file with that curve a planned record meets none of 4, 11, 12, 13 and 18; over the files the periodised
@@ -399,7 +378,7 @@ fn a105_planned_records_pass_in_month_files() {
         let Ok(planned) = year.plan() else { continue };
         let mut read_wh = 0;
         for (&reading, curve) in planned.iter().zip(&year.curves) {
-            let file = month_with(curve, reading).bytes();
+            let file = month_with(curve, reading);
             let month = settle(&file, Setting::Final).unwrap();
             assert_eq!(month.curve, *curve);
             read_wh += month.party_sums()[usize::from(reading.party)].periodised_wh;

@@ -3,50 +3,21 @@
 
 mod common;
 
-use common::{assert_accepted, assert_refused};
-use second::draft::{measured_hour, prices_of, Draft, DraftParty};
-use second::gln::with_check_digit;
+use common::{assert_accepted, assert_refused, month_of};
+use second::draft::measured_hour;
 use second::make::files;
 use second::month::settle;
 use second::month_file;
 use second::periodisation::periodised_wh;
-use second::record::{HourFlows, Reading, Record, Weights};
+use second::record::{Reading, Record, Weights};
 use second::refusal::{Number, Refusal};
 use second::residual::curve;
 use second::setting::Setting;
 use second::statement::statement;
 
-/// April 2016 in area 7: load shares, fixed residuals (the refixed are the same) and readings; prices 0, carrier 0.
-fn month(shares_kwh: &[u64], residuals_wh: &[i64], readings: &[Reading]) -> Draft {
-    let hours = residuals_wh.iter().enumerate();
-    let series: Vec<HourFlows> = hours.map(|(hour, &wh)| measured_hour(hour, wh)).collect();
-    let parties = shares_kwh.iter().zip(1..);
-    Draft {
-        heading: second::record::Heading {
-            area: 7,
-            year: 2016,
-            month: 4,
-            hours: residuals_wh.len() as u16,
-            parties: shares_kwh.len() as u8,
-            carrier: 0,
-        },
-        parties: parties
-            .map(|(&load_share_kwh, number)| DraftParty {
-                gln: with_check_digit(number),
-                load_share_kwh,
-            })
-            .collect(),
-        fixed: series.clone(),
-        refixed: series,
-        prices: prices_of(residuals_wh.iter().map(|_| 0)),
-        readings: readings.to_vec(),
-        end_count: None,
-    }
-}
-
 /// W 1, hours of 4 and 0 Wh, so curve numbers of 4,000,000 and 0, and these readings.
 fn month_of_4_and_0(readings: &[Reading]) -> Vec<u8> {
-    month(&[1], &[4, 0], readings).bytes()
+    month_of(&[1], &[4, 0], readings).bytes()
 }
 
 /// A reading of party 0.
@@ -64,10 +35,10 @@ fn periodised(file: &[u8]) -> Vec<i64> {
 /// 7 Wh over five equal weights are 1, 1, 2, 1 and 2: two in April, three in May.
 #[test]
 fn w3_two_months_first_and_second() {
-    let april = month(&[2], &[1, 1], &[reading(0, 2, 7).weighing(0, 2_500_000)]).bytes();
+    let april = month_of(&[2], &[1, 1], &[reading(0, 2, 7).weighing(0, 2_500_000)]).bytes();
     assert_eq!(periodised(&april), [1, 1]);
     let part = reading(0, 3, 7).weighing(1_000_000, 2_500_000);
-    let may = month(&[2], &[1, 1, 1], &[part]).bytes();
+    let may = month_of(&[2], &[1, 1, 1], &[part]).bytes();
     assert_eq!(periodised(&may), [2, 1, 2]);
     assert_eq!(
         statement(&may),
@@ -82,7 +53,7 @@ total 3 5 -2 0 0
 fn w3_mixed_with_04_a_reading_counts_both() {
     let part = Reading::of_month(1, 0, 2, 3).weighing(5, 9_000_000);
     let readings = [reading(0, 1, 3), part, reading(1, 2, 3)];
-    let mut draft = month(&[1, 1], &[4, 0], &readings);
+    let mut draft = month_of(&[1, 1], &[4, 0], &readings);
     draft.refixed[1] = measured_hour(1, 1);
     assert_refused(&draft.bytes(), 13, 2);
     // In any order.
@@ -145,7 +116,7 @@ fn w3_e_0_does_not_excuse_18() {
 #[test]
 fn w3_exactly_the_whole_and_the_last_wh_comes_out() {
     let part = |whole| reading(0, 2, 11).weighing(9_000_000, whole);
-    let file = |whole| month(&[1], &[4, 1], &[part(whole)]).bytes();
+    let file = |whole| month_of(&[1], &[4, 1], &[part(whole)]).bytes();
     assert_eq!(periodised(&file(14_000_000)), [3, 1]);
     assert_refused(&file(13_999_999), 18, 0);
     // One more, and the last Wh is left to another month: 10.99, so 10.
@@ -182,12 +153,12 @@ fn w3_18_comes_after_10_and_before_14() {
     let too_much = reading(0, 1, 0).weighing(1, 0);
     let crowd = [reading(0, 1, 1_000_000_000); 3];
     let readings = [&crowd[..], &[too_much]].concat();
-    assert_refused(&month(&[1], &[4, 0], &readings).bytes(), 18, 3);
-    assert_refused(&month(&[1], &[4, 1_001], &readings).bytes(), 10, 1);
-    assert_refused(&month(&[1], &[4, -1], &readings).bytes(), 8, 1);
-    assert_refused(&month(&[1], &[4, 0], &crowd).bytes(), 14, 0);
+    assert_refused(&month_of(&[1], &[4, 0], &readings).bytes(), 18, 3);
+    assert_refused(&month_of(&[1], &[4, 1_001], &readings).bytes(), 10, 1);
+    assert_refused(&month_of(&[1], &[4, -1], &readings).bytes(), 8, 1);
+    assert_refused(&month_of(&[1], &[4, 0], &crowd).bytes(), 14, 0);
     let parts = crowd.map(|reading| reading.weighing(0, 4_000_000));
-    assert_refused(&month(&[1], &[4, 0], &parts).bytes(), 14, 0);
+    assert_refused(&month_of(&[1], &[4, 0], &parts).bytes(), 14, 0);
 }
 
 /// The fields are judged with the record, whatever its weights: 4, then 11, then 12, before everything after the reading.
@@ -196,7 +167,7 @@ fn w3_the_fields_of_an_08_are_judged_like_those_of_a_04() {
     // Heading, party, two hours twice, two prices: the reading is record 8.
     let part = |party, a, b, e_wh| {
         let reading = Reading::of_month(party, a, b, e_wh).weighing(u64::MAX, 0);
-        month(&[1], &[4, 1], &[reading]).bytes()
+        month_of(&[1], &[4, 1], &[reading]).bytes()
     };
     assert_refused(&part(1, 2, 2, 2_000_000_000), 4, 8);
     assert_refused(&part(0, 2, 2, 2_000_000_000), 11, 8);
@@ -208,7 +179,7 @@ fn w3_the_fields_of_an_08_are_judged_like_those_of_a_04() {
 /// "stands among the 04 records": nowhere else.
 #[test]
 fn w3_an_08_before_the_last_price_is_3_and_one_cut_short_1() {
-    let draft = month(&[1], &[4, 1], &[reading(0, 1, 0).weighing(0, 4_000_000)]);
+    let draft = month_of(&[1], &[4, 1], &[reading(0, 1, 0).weighing(0, 4_000_000)]);
     let records = draft.records();
     let part = &records[8];
     assert_eq!((part.len(), part[0]), (26, 8));
@@ -222,8 +193,8 @@ fn w3_an_08_before_the_last_price_is_3_and_one_cut_short_1() {
         assert_refused(&draft.bytes()[..before + length], 1, 8);
     }
     // After the end it is bytes after the end.
-    let after = [&records[..], &[part.clone()]].concat();
-    assert_refused(&after.concat(), 1, 10);
+    let after = [draft.bytes(), part.clone()].concat();
+    assert_refused(&after, 1, 10);
 }
 
 /// "A 04 is the 08 with nothing before it and its own weight as the whole".
@@ -284,6 +255,9 @@ mod wrong {
     use super::*;
 
     pub type Rule = fn(&[Reading], &[u32]) -> Judged;
+
+    /// A rule for one 08: its E, its weights, and the curve numbers of its hours.
+    type RuleOf08 = fn(u64, Weights, &[u32]) -> Result<Vec<u64>, Number>;
 
     pub const RULES: &[(&str, Rule)] = &[
         ("growth counted from 0", |readings, curve| {
@@ -417,11 +391,7 @@ mod wrong {
     }
 
     /// A rule of its own for the 08 records.
-    fn each_08(
-        readings: &[Reading],
-        curve: &[u32],
-        rule: fn(u64, Weights, &[u32]) -> Result<Vec<u64>, Number>,
-    ) -> Judged {
+    fn each_08(readings: &[Reading], curve: &[u32], rule: RuleOf08) -> Judged {
         each(readings, curve, |e_wh, weights, own| match weights {
             Some(weights) => rule(e_wh, weights, own),
             None => periodised_wh(e_wh, None, own),
@@ -429,8 +399,7 @@ mod wrong {
     }
 }
 
-/// The readings and the curve of a file that a final run refuses with nothing before 18 and 13; they are where it is judged
-/// by the rules here.
+/// The readings and the curve of a file for which a final run comes as far as judging its readings.
 fn readings_and_curve(bytes: &[u8]) -> Option<(Vec<Reading>, Vec<u32>)> {
     let file = month_file::read(bytes).ok()?;
     let refused_before = match settle(bytes, Setting::Final) {
@@ -507,7 +476,7 @@ fn an_08_of_a_file_is_read_as_it_was_written() {
         reading(1, 2, 5),
         reading(0, 1, 0).weighing(0, 4_000_000),
     ];
-    let draft = month(&[1], &[4, 1], &readings);
+    let draft = month_of(&[1], &[4, 1], &readings);
     let bytes = draft.bytes();
     assert_eq!(month_file::read(&bytes).unwrap().readings, readings);
     let records = draft.records();
