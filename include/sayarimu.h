@@ -20,8 +20,9 @@
 #include <stdint.h>
 
 /* Which functions there are, and what they mean; a caller can ask for it by #if. 1 was the header without a number. 2 has
- * `settle_invoice` in place of `settle_invoice_ore`, which rounded one amount by itself (02, W2). */
-#define SAYARIMU_VERSION 2
+ * `settle_invoice` in place of `settle_invoice_ore`, which rounded one amount by itself (02, W2). 3 adds `settle_plan`, the
+ * planner of readings over several months, and leaves the rest as it was (02, W3). */
+#define SAYARIMU_VERSION 3
 
 #ifdef __cplusplus
 extern "C" {
@@ -59,6 +60,26 @@ uint64_t settle_distribution(const uint64_t *shares_kwh, size_t shares_len,
  * Lent: `out`. */
 uint64_t settle_periodisation(uint64_t e_wh, const uint32_t *weights, size_t weights_len,
                               uint32_t *out_wh, size_t out_len);
+
+/* PLANNER. The records 08 of a reading that crosses several months, one for each month, of E Wh from hour `a` of the first
+ * month to before hour `b` of the last. `parties` has the number of the reading's party in each month, `hours` the hours of
+ * each month, and `curves` the months' curve numbers one month after the other. Of the record of month k the party is
+ * parties[k] and E the one handed in; its a goes to `out_a`, its b to `out_b`, the weight of the reading in the months before
+ * to `out_before` and the weight of the whole reading to `out_whole`, each at k. A weight is a sum of curve numbers over the
+ * reading's hours. Refuses, in order: 16, a lent list not as long as `hours`; 4, parties not as many as months, months outside
+ * 1..13, hours of a month outside 1..745, hours that do not add up to the number of curve numbers, or a party above 63; 11, a
+ * reading of more than 8,784 hours, or without an hour in one of its months (a not below the first month's hours, b 0 or above
+ * the last month's hours, in one month a not below b); 12, E above 1,000,000,000; 10, a curve number above 1,000,000,000, also
+ * outside the reading's hours; 13, E positive and the weight of the whole reading 0. Lent: `out_a`, `out_b`, `out_before` and
+ * `out_whole`. */
+uint64_t settle_plan(uint64_t e_wh, uint16_t a, uint16_t b,
+                     const uint8_t *parties, size_t parties_len,
+                     const uint16_t *hours, size_t hours_len,
+                     const uint32_t *curves, size_t curves_len,
+                     uint16_t *out_a, size_t out_a_len,
+                     uint16_t *out_b, size_t out_b_len,
+                     uint64_t *out_before, size_t out_before_len,
+                     uint64_t *out_whole, size_t out_whole_len);
 
 /* RECONCILIATION OF ONE HOUR. The grid loss, residual - all periodised, into `loss`; each party's difference, periodised +
  * (loss, if it carries the loss) - distributed, into `differences`; difference x price into `amounts`. Refuses, in order: 16,

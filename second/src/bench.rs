@@ -93,11 +93,8 @@ fn month(size: &Size) -> Draft {
 }
 
 fn readings(size: &Size, draft: &Draft, random: &mut Random) -> Vec<Reading> {
-    let reading = |e_wh: u32, party: usize, a: usize| Reading {
-        party: party as u8,
-        a: a as u16,
-        b: (a + size.span) as u16,
-        e_wh,
+    let reading = |e_wh: u32, party: usize, a: usize| {
+        Reading::of_month(party as u8, a as u16, (a + size.span) as u16, e_wh)
     };
     let one_reading = Record::Reading(reading(0, 0, 0)).encode().len();
     let count = match size.readings {

@@ -1,5 +1,5 @@
-//! The damages: months with a fault for each refusal 1 to 15, in each way that its row of the table names; two faults at
-//! once, so that their order shows; and random damage. A month that is not refixed is good, in a provisional run, and 17 in a
+//! The damages: months with a fault for each refusal 1 to 15 and for 18, in each way that its row of the table names; two
+//! faults at once, so that their order shows; and random damage. A month that is not refixed is good, in a provisional run, and 17 in a
 //! final one where nothing comes before it: what is told here is the provisional run's.
 //!
 //! A fault of a draft changes fields and tells the refusal that it alone must give. A fault of the bytes works on the
@@ -7,10 +7,15 @@
 
 use crate::draft::{measured_hour, Draft};
 use crate::gln::with_check_digit;
-use crate::limits::{FILE_BYTES_MAX, STATUS_MISSING};
-use crate::make::{add_readings, is_refixed, month, most_residual_wh, random_hour, Aim, MadeFile};
+use crate::limits::{FILE_BYTES_MAX, STATUS_MISSING, WHOLE_WEIGHT_MAX};
+use crate::make::{
+    add_readings, curve, is_refixed, month, most_residual_wh, own_weight, random_hour,
+    random_weights, Aim, MadeFile,
+};
 use crate::random::Random;
-use crate::record::{Heading, HourFlows, Party, Reading, Record, FIXED_HOUR, REFIXED_HOUR};
+use crate::record::{
+    Heading, HourFlows, Party, Reading, Record, Weights, FIXED_HOUR, READING, REFIXED_HOUR,
+};
 use crate::refusal::{Number, Refusal};
 
 type DraftFault = fn(&mut Draft, &mut Random) -> Refusal;
@@ -199,6 +204,11 @@ pub const DRAFT_FAULTS: &[(&str, DraftFault)] = &[
         draft.readings[reading].party = outside(random, draft.parties.len() as u8, &[64, 255]);
         Number::OutsideRange.at(draft.at_reading(reading))
     }),
+    ("party of an 08", |draft, random| {
+        let reading = of_any_weights(draft, random);
+        draft.readings[reading].party = outside(random, draft.parties.len() as u8, &[64, 255]);
+        Number::OutsideRange.at(draft.at_reading(reading))
+    }),
     // 5
     ("GLN with a byte that is no digit", |draft, random| {
         let (party, position) = (random.below(draft.parties.len()), random.below(13));
@@ -311,9 +321,27 @@ pub const DRAFT_FAULTS: &[(&str, DraftFault)] = &[
             (random.below(hours + 1), b)
         })
     }),
+    ("span of an 08", |draft, random| {
+        let reading = of_any_weights(draft, random);
+        let hours = draft.fixed.len() as u16;
+        let hour = random.below(draft.fixed.len()) as u16;
+        let spans = [
+            (hour, hour),
+            (hour + 1, hour),
+            (hour, hours + 1),
+            (0, u16::MAX),
+        ];
+        (draft.readings[reading].a, draft.readings[reading].b) = *random.pick(&spans);
+        Number::BadSpan.at(draft.at_reading(reading))
+    }),
     // 12
     ("E too large", |draft, random| {
         let reading = random.below(draft.readings.len());
+        draft.readings[reading].e_wh = outside(random, 1_000_000_001, &[1 << 31, u32::MAX]);
+        Number::ReadingTooLarge.at(draft.at_reading(reading))
+    }),
+    ("E of an 08 too large", |draft, random| {
+        let reading = of_any_weights(draft, random);
         draft.readings[reading].e_wh = outside(random, 1_000_000_001, &[1 << 31, u32::MAX]);
         Number::ReadingTooLarge.at(draft.at_reading(reading))
     }),
@@ -335,6 +363,56 @@ pub const DRAFT_FAULTS: &[(&str, DraftFault)] = &[
             draft.fixed[hour] = random_hour(random, hour, residual);
         }
         Number::NoWeight.at(draft.readings.len() - 1)
+    }),
+    ("E of an 08 over no weight at all", |draft, random| {
+        let reading = weightless_reading(draft, random);
+        let span = usize::from(reading.a)..usize::from(reading.b);
+        for hour in span {
+            draft.fixed[hour] = random_hour(random, hour, 0);
+        }
+        let last = draft.readings.len() - 1;
+        draft.readings[last] = reading.weighing(0, 0);
+        Number::NoWeight.at(last)
+    }),
+    // 18
+    ("before and own one above the whole", |draft, random| {
+        weights_fault(draft, random, |random, own| {
+            let before = 1 + random.any_size(WHOLE_WEIGHT_MAX as u64 - own);
+            (before, before + own - 1)
+        })
+    }),
+    ("before alone above the whole", |draft, random| {
+        weights_fault(draft, random, |random, _| {
+            let whole = random.any_size(WHOLE_WEIGHT_MAX as u64);
+            (1 + random.any_size(u64::MAX - 1).max(whole), whole)
+        })
+    }),
+    ("before and own beyond 64 bits", |draft, random| {
+        // What is left of the sum in 64 bits is below the whole.
+        weights_fault(draft, random, |random, own| {
+            let before = u64::MAX - random.any_size(own - 1);
+            (before, WHOLE_WEIGHT_MAX as u64)
+        })
+    }),
+    ("the whole one above its limit", |draft, random| {
+        weights_fault(draft, random, |random, own| {
+            let whole = outside(random, WHOLE_WEIGHT_MAX as u64 + 1, &[1 << 63, u64::MAX]);
+            (random.any_size(WHOLE_WEIGHT_MAX as u64 - own), whole)
+        })
+    }),
+    ("own weight, and the whole 0", |draft, random| {
+        // E is positive: 18 comes before 13 of the same reading.
+        let refusal = weights_fault(draft, random, |_, _| (0, 0));
+        draft.readings[refusal.place].e_wh = 1 + random.any_size(999_999_999) as u32;
+        refusal
+    }),
+    ("too much weight with E 0", |draft, random| {
+        let refusal = weights_fault(draft, random, |random, own| {
+            let before = random.any_size(u64::MAX);
+            *random.pick(&[(0, own - 1), (before, own - 1), (0, u64::MAX)])
+        });
+        draft.readings[refusal.place].e_wh = 0;
+        refusal
     }),
     // 14
     ("one Wh too much periodised in an hour", |draft, random| {
@@ -509,25 +587,78 @@ fn span_fault(
 }
 
 fn reading_of(draft: &Draft, random: &mut Random, a: usize, b: usize, e_wh: u32) -> Reading {
-    Reading {
-        party: random.below(draft.parties.len()) as u8,
-        a: a as u16,
-        b: b as u16,
-        e_wh,
+    let party = random.below(draft.parties.len()) as u8;
+    Reading::of_month(party, a as u16, b as u16, e_wh)
+}
+
+/// Makes one reading, whose number is told, an 08 with any weights: the reading of the file takes them all.
+fn of_any_weights(draft: &mut Draft, random: &mut Random) -> usize {
+    let reading = random.below(draft.readings.len());
+    let (before, whole) = (random.any_size(u64::MAX), random.any_size(u64::MAX));
+    draft.readings[reading] = draft.readings[reading].weighing(before, whole);
+    reading
+}
+
+/// Puts a reading over several months somewhere among the others, over hours of which one has weight; the function gets
+/// the weight of these hours, which is positive, and tells the weight before and of the whole, which is too much.
+fn weights_fault(
+    draft: &mut Draft,
+    random: &mut Random,
+    weights: fn(&mut Random, u64) -> (u64, u64),
+) -> Refusal {
+    let (a, b) = span_with_weight(draft, random);
+    let own = own_weight(&curve(draft)[a..b]);
+    let (before, whole) = weights(random, own);
+    let e_wh = random.any_size(1_000_000_000) as u32;
+    let reading = reading_of(draft, random, a, b, e_wh).weighing(before, whole);
+    let place = random.below(draft.readings.len() + 1);
+    draft.readings.insert(place, reading);
+    Number::TooMuchWeight.at(place)
+}
+
+/// Random hours, one of which is given weight, and readings that any weight is good for.
+fn span_with_weight(draft: &mut Draft, random: &mut Random) -> (usize, usize) {
+    empty_readings(draft);
+    let a = random.below(draft.fixed.len());
+    let b = a + 1 + random.below(draft.fixed.len() - a);
+    let most_wh = most_residual_wh(draft.share_sum_kwh().clamp(1, 4_000_000_000) as u64);
+    draft.fixed[a] = random_hour(random, a, most_wh);
+    (a, b)
+}
+
+/// Makes all readings readings of 0, which need no weight; the whole of those over several months is the largest there is,
+/// so that they cannot have too much.
+fn empty_readings(draft: &mut Draft) {
+    let largest = Weights {
+        before: 0,
+        whole: WHOLE_WEIGHT_MAX as u64,
+    };
+    for reading in &mut draft.readings {
+        reading.e_wh = 0;
+        reading.weights = reading.weights.map(|_| largest);
     }
 }
 
-/// Adds a last reading with a positive E over a random span, and makes all before it readings of 0, which need no weight.
+/// Adds a last reading with a positive E over a random span, and makes all before it good for any weight.
 fn weightless_reading(draft: &mut Draft, random: &mut Random) -> Reading {
-    for reading in &mut draft.readings {
-        reading.e_wh = 0;
-    }
+    empty_readings(draft);
     let a = random.below(draft.fixed.len());
     let b = a + 1 + random.below(draft.fixed.len() - a);
     let e_wh = 1 + random.any_size(999_999_999) as u32;
     let reading = reading_of(draft, random, a, b, e_wh);
     draft.readings.push(reading);
     reading
+}
+
+/// Makes the hours of a random span real zeros, and tells a reading of them of a positive E.
+fn no_weight_reading(draft: &mut Draft, random: &mut Random) -> Reading {
+    let a = random.below(draft.fixed.len());
+    let b = a + 1 + random.below(draft.fixed.len() - a);
+    for hour in a..b {
+        draft.fixed[hour] = random_hour(random, hour, 0);
+    }
+    let e_wh = 1 + random.any_size(999_999_999) as u32;
+    reading_of(draft, random, a, b, e_wh)
 }
 
 /// One hour with readings of 2,000,000,001 Wh in all, and the weight that they need.
@@ -580,6 +711,16 @@ pub const BYTES_FAULTS: &[(&str, BytesFault)] = &[
         records[cut].truncate(1 + random.below(body));
         refused(records, Number::BrokenFile, cut)
     }),
+    ("08 cut short", |draft, random| {
+        // As long as a 04, or anywhere.
+        let cut = of_any_weights(draft, random);
+        let place = draft.at_reading(cut);
+        let mut records = draft.records();
+        records.truncate(place + 1);
+        let any = 1 + random.below(25);
+        records[place].truncate(*random.pick(&[10, 18, 25, any]));
+        refused(records, Number::BrokenFile, place)
+    }),
     ("cut after a kind", |draft, random| {
         let mut records = draft.records();
         let cut = random.below(records.len());
@@ -631,11 +772,20 @@ pub const BYTES_FAULTS: &[(&str, BytesFault)] = &[
     ("unknown record put in", |draft, random| {
         let mut records = draft.records();
         let place = random.below(records.len());
-        let (kind, length) = *random.pick(&[(0x08, 25), (0x09, 11), (0x0A, 3), (0x12, 34)]);
+        let (kind, length) = *random.pick(&[(0x09, 11), (0x0A, 3), (0x12, 34)]);
         let mut unknown = vec![0; 1 + length];
         unknown[0] = kind;
         records.insert(place, unknown);
         refused(records, Number::UnknownKind, place)
+    }),
+    ("08 marked as 04", |draft, random| {
+        // Its weights are then the next record, of kind 0.
+        let reading = random.below(draft.readings.len());
+        let whole = random.any_size(WHOLE_WEIGHT_MAX as u64);
+        draft.readings[reading] = draft.readings[reading].weighing(0, whole);
+        let mut records = draft.records();
+        records[draft.at_reading(reading)][0] = READING;
+        refused(records, Number::UnknownKind, draft.at_reading(reading) + 1)
     }),
     // 3
     ("no heading", |draft, _| {
@@ -745,6 +895,13 @@ pub const BYTES_FAULTS: &[(&str, BytesFault)] = &[
         records.insert(place, records[draft.at_reading(0)].clone());
         refused(records, Number::OutOfOrder, place)
     }),
+    ("an early 08", |draft, random| {
+        let mut records = draft.records();
+        let place = random.below(draft.at_price(draft.prices.len()));
+        let early = reading_of(draft, random, 0, 1, 0).weighing(0, 0);
+        records.insert(place, Record::Reading(early).encode());
+        refused(records, Number::OutOfOrder, place)
+    }),
     // Two faults in one record.
     ("cut and out of order", |draft, random| {
         let mut records = draft.records();
@@ -798,12 +955,7 @@ pub const BYTES_FAULTS: &[(&str, BytesFault)] = &[
     ("party, span and E", |draft, random| {
         let reading = random.below(draft.readings.len());
         let party = draft.parties.len() as u8;
-        draft.readings[reading] = Reading {
-            party,
-            a: 1,
-            b: 1,
-            e_wh: 1_000_000_001,
-        };
+        draft.readings[reading] = Reading::of_month(party, 1, 1, 1_000_000_001);
         refused(
             draft.records(),
             Number::OutsideRange,
@@ -815,6 +967,13 @@ pub const BYTES_FAULTS: &[(&str, BytesFault)] = &[
         let hours = draft.fixed.len();
         draft.readings[reading] = reading_of(draft, random, 0, hours + 1, u32::MAX);
         refused(draft.records(), Number::BadSpan, draft.at_reading(reading))
+    }),
+    ("party, span, E and weights of an 08", |draft, random| {
+        let reading = random.below(draft.readings.len());
+        let party = draft.parties.len() as u8;
+        draft.readings[reading] = Reading::of_month(party, 1, 1, u32::MAX).weighing(u64::MAX, 0);
+        let place = draft.at_reading(reading);
+        refused(draft.records(), Number::OutsideRange, place)
     }),
     ("wrong count and bytes after", |draft, random| {
         let place = draft.at_end();
@@ -899,6 +1058,62 @@ pub const BYTES_FAULTS: &[(&str, BytesFault)] = &[
             refused(draft.records(), Number::NoWeight, 3)
         },
     ),
+    // 18 among what is found after the file is read.
+    ("too much weight, and a curve number", |draft, random| {
+        let hour = random.below(draft.fixed.len());
+        steep_curve(draft, random, hour);
+        let reading = reading_of(draft, random, 0, 1, 5).weighing(1, 0);
+        draft.readings.insert(0, reading);
+        refused(draft.records(), Number::CurveNumberTooLarge, hour)
+    }),
+    ("too much weight, then no weight", |draft, random| {
+        let no_weight = no_weight_reading(draft, random);
+        draft.readings = vec![
+            no_weight.weighing(1, 0),
+            no_weight,
+            no_weight.weighing(0, 0),
+        ];
+        refused(draft.records(), Number::TooMuchWeight, 0)
+    }),
+    ("no weight, then too much weight", |draft, random| {
+        let no_weight = no_weight_reading(draft, random);
+        let first = *random.pick(&[no_weight, no_weight.weighing(0, 0)]);
+        let later = *random.pick(&[(1, 0), (u64::MAX, 0), (0, u64::MAX)]);
+        draft.readings = vec![first, no_weight.weighing(later.0, later.1)];
+        refused(draft.records(), Number::NoWeight, 0)
+    }),
+    ("08 and 04 before no weight", |draft, random| {
+        // Both count for the place.
+        let no_weight = no_weight_reading(draft, random);
+        let before = random.any_size(1_000);
+        let [mut empty, mut empty_part] = [no_weight, no_weight.weighing(before, 1_000)];
+        (empty.e_wh, empty_part.e_wh) = (0, 7);
+        draft.readings = vec![empty_part, empty, empty_part, no_weight];
+        refused(draft.records(), Number::NoWeight, 3)
+    }),
+    (
+        "too much weight and too much periodised",
+        |draft, random| {
+            let hour = random.below(draft.fixed.len());
+            crowded_hour(draft, random, hour);
+            let reading = reading_of(draft, random, hour, hour + 1, 0).weighing(u64::MAX, 0);
+            draft.readings.push(reading);
+            refused(draft.records(), Number::TooMuchWeight, 3)
+        },
+    ),
+    ("too much periodised in an hour by 08", |draft, random| {
+        // All of each reading falls into this hour.
+        let hour = random.below(draft.fixed.len());
+        crowded_hour(draft, random, hour);
+        let own = own_weight(&curve(draft)[hour..hour + 1]);
+        for reading in &mut draft.readings {
+            *reading = reading.weighing(0, own);
+        }
+        let Weights { before, .. } = random_weights(random, own);
+        let nothing = reading_of(draft, random, hour, hour + 1, 0).weighing(before, before + own);
+        draft.readings.insert(1, nothing);
+        refused(draft.records(), Number::TooMuchPeriodised, hour)
+    }),
     // Not refixed, and another fault. One of the file comes before 17, one found after it gives 17 in a final run.
     ("not refixed, and a wrong count", |draft, random| {
         draft.refixed.clear();
@@ -946,6 +1161,11 @@ pub const BYTES_FAULTS: &[(&str, BytesFault)] = &[
         draft.fixed[hour] = missing_hour(hour);
         refused(draft.records(), Number::MissingHour, hour)
     }),
+    ("not refixed, and too much weight", |draft, random| {
+        draft.refixed.clear();
+        let refusal = weights_fault(draft, random, |_, own| (1, own));
+        refused(draft.records(), refusal.number, refusal.place)
+    }),
     (
         "not refixed, and too much periodised in an hour",
         |draft, random| {
@@ -958,7 +1178,7 @@ pub const BYTES_FAULTS: &[(&str, BytesFault)] = &[
 ];
 
 fn unknown_kind(random: &mut Random) -> u8 {
-    *random.pick(&[0x00, 0x08, 0x09, 0x0A, 0x0B, 0x12, 0x13, 0x80, 0x81, 0xFF])
+    *random.pick(&[0x00, 0x09, 0x0A, 0x0B, 0x12, 0x13, 0x80, 0x81, 0xFF])
 }
 
 // Random damage, and two or three faults at random.

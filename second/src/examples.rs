@@ -1,14 +1,19 @@
 //! The stored examples: S1 of 01, a full month with realistic figures, a month with a silent hour, the case D3 of 01 as a
-//! month that can be worked out by hand, another such month before and after its refixation, and one for the whole øre.
+//! month that can be worked out by hand, another such month before and after its refixation, one for the whole øre, and three
+//! that one reading crosses.
 
 use crate::draft::{measured_hour, prices_of, Draft, DraftParty};
 use crate::gln::with_check_digit;
 use crate::limits::{STATUS_ESTIMATED, STATUS_MEASURED, STATUS_MISSING};
+use crate::make::curve;
+use crate::plan::plan;
 use crate::random::Random;
 use crate::record::{Heading, HourFlows, Reading};
 
 /// The names of the examples.
-pub const NAMES: [&str; 7] = ["s1", "full", "silent", "d3", "before", "after", "ore"];
+pub const NAMES: [&str; 10] = [
+    "s1", "full", "silent", "d3", "before", "after", "ore", "yearly1", "yearly2", "yearly3",
+];
 
 /// The month file of an example; None for an unknown name.
 pub fn example(name: &str) -> Option<Vec<u8>> {
@@ -20,6 +25,9 @@ pub fn example(name: &str) -> Option<Vec<u8>> {
         "before" => Some(before().bytes()),
         "after" => Some(after().bytes()),
         "ore" => Some(ore().bytes()),
+        "yearly1" => Some(yearly()[0].bytes()),
+        "yearly2" => Some(yearly()[1].bytes()),
+        "yearly3" => Some(yearly()[2].bytes()),
         _ => None,
     }
 }
@@ -35,11 +43,9 @@ pub fn s1() -> Draft {
         [10_000_000, 12_500_000, 10_000_000],
     ];
     let series = |residuals: [i64; 3]| (0..3).map(|h| measured_hour(h, residuals[h])).collect();
-    let one_hour_reading = |party: usize, hour: usize| Reading {
-        party: party as u8,
-        a: hour as u16,
-        b: hour as u16 + 1,
-        e_wh: readings_wh[party][hour],
+    let one_hour_reading = |party: usize, hour: usize| {
+        let (a, e_wh) = (hour as u16, readings_wh[party][hour]);
+        Reading::of_month(party as u8, a, a + 1, e_wh)
     };
     Draft {
         heading: Heading {
@@ -114,20 +120,7 @@ fn fixed_d3(area: u16, month: u8) -> Draft {
         refixed: Vec::new(),
         // 2 and -1.5 øre per Wh: two of the amounts end on half an øre.
         prices: prices_of([2_000_000, -1_500_000]),
-        readings: vec![
-            Reading {
-                party: 0,
-                a: 0,
-                b: 2,
-                e_wh: 6,
-            },
-            Reading {
-                party: 2,
-                a: 1,
-                b: 2,
-                e_wh: 2,
-            },
-        ],
+        readings: vec![Reading::of_month(0, 0, 2, 6), Reading::of_month(2, 1, 2, 2)],
         end_count: None,
     }
 }
@@ -136,12 +129,7 @@ fn fixed_d3(area: u16, month: u8) -> Draft {
 /// and 0.5 øre, of which three øre are missing when they are rounded down, one of them by a tie. Refixation changed nothing.
 pub fn ore() -> Draft {
     let series: Vec<HourFlows> = vec![measured_hour(0, 10), measured_hour(1, 5)];
-    let one_hour_reading = |(party, hour, e_wh)| Reading {
-        party,
-        a: hour,
-        b: hour + 1,
-        e_wh,
-    };
+    let one_hour_reading = |(party, hour, e_wh)| Reading::of_month(party, hour, hour + 1, e_wh);
     let readings = [
         (0, 0, 3),
         (1, 0, 4),
@@ -164,6 +152,50 @@ pub fn ore() -> Draft {
         refixed: series,
         prices: prices_of([250_000, -500_000]),
         readings: readings.map(one_hour_reading).to_vec(),
+        end_count: None,
+    }
+}
+
+/// October to December 2016 in area 6, and a meter that is read from the middle of the first month to the middle of the
+/// last: 100 Wh over weights of 21 parts, 5, 12 and 4 of them in the months. Its supplier is the first of two in October;
+/// in November one of a lower GLN comes before it. The last supplier carries the loss.
+pub fn yearly() -> [Draft; 3] {
+    let mut months = [
+        month_of_wh(10, [40, 50, 30, 20]),
+        month_of_wh(11, [20, 40, 10, 50]),
+        month_of_wh(12, [30, 10, 60, 40]),
+    ];
+    months[0].parties = numbered_parties([0, 60, 40])[1..].to_vec();
+    months[0].heading.parties = 2;
+    months[0].heading.carrier = 1;
+    let curves = months.each_ref().map(curve).concat();
+    let planned = plan(100, 2, 2, &[0, 1, 1], &[4, 4, 4], &curves).expect("a good reading");
+    let whole_month = |party, e_wh| Reading::of_month(party, 0, 4, e_wh);
+    months[0].readings = vec![planned[0], whole_month(1, 56)];
+    months[1].readings = vec![whole_month(0, 12), planned[1], whole_month(2, 36)];
+    months[2].readings = vec![whole_month(0, 14), whole_month(2, 42), planned[2]];
+    months
+}
+
+/// A month of 2016 in area 6 with these residuals, which refixation did not change, at 1 øre per Wh, and without readings:
+/// three suppliers with a tenth, a half and two fifths of W, which is 100.
+fn month_of_wh(month: u8, residuals_wh: [i64; 4]) -> Draft {
+    let hours = residuals_wh.into_iter().enumerate();
+    let series: Vec<HourFlows> = hours.map(|(hour, wh)| measured_hour(hour, wh)).collect();
+    Draft {
+        heading: Heading {
+            area: 6,
+            year: 2016,
+            month,
+            hours: 4,
+            parties: 3,
+            carrier: 2,
+        },
+        parties: numbered_parties([10, 50, 40]),
+        fixed: series.clone(),
+        refixed: series,
+        prices: prices_of([1_000_000; 4]),
+        readings: Vec::new(),
         end_count: None,
     }
 }
@@ -340,12 +372,8 @@ fn realistic_readings(
         for span in 0..spans {
             let (a, b) = (span * hours / spans, (span + 1) * hours / spans);
             let drift = i128::from(random.between(-15, 15) + read_per_mille);
-            readings.push(Reading {
-                party: party as u8,
-                a: a as u16,
-                b: b as u16,
-                e_wh: (part_wh(party, a, b) * drift / 1000) as u32,
-            });
+            let e_wh = (part_wh(party, a, b) * drift / 1000) as u32;
+            readings.push(Reading::of_month(party as u8, a as u16, b as u16, e_wh));
         }
     }
     readings

@@ -14,7 +14,8 @@
 //! | `residual` | "From flows to the curve" |
 //! | `largest_remainder` | the rule of "Distributed consumption" and of W2 by which exact figures become whole ones |
 //! | `distribution` | "Distributed consumption" |
-//! | `periodisation` | "Periodised consumption" |
+//! | `periodisation` | "Periodised consumption", and W3's part of it in one month |
+//! | `plan` | W3: the records of a reading over several months |
 //! | `reconciliation` | "Reconciliation", one hour |
 //! | `invoice` | W2: the month's exact amounts in whole øre |
 //! | `setting` | W1: final or provisional |
@@ -29,10 +30,10 @@
 //! program with this one) and `bench` (months of a chosen size, to count instructions on).
 //!
 //! Every public service (`residual::residual`, `residual::curve`, `distribution::distribution`,
-//! `periodisation::periodisation`, `reconciliation::reconciliation`, `invoice::invoice`, `record::read_alone`,
-//! `record::write`, `record::write_plain`, `month::settle`, `month::month_sums`) checks its own input, refuses as 01
-//! and 02 say, and has an answer for every machine value. A service that they lend an output takes its length and hands
-//! back the figures, so that refused calls have nothing to write into.
+//! `periodisation::periodisation`, `plan::plan`, `reconciliation::reconciliation`, `invoice::invoice`,
+//! `record::read_alone`, `record::write`, `record::write_plain`, `month::settle`, `month::month_sums`) checks its own
+//! input, refuses as 01 and 02 say, and has an answer for every machine value. A service that they lend an output takes
+//! its length and hands back the figures, so that refused calls have nothing to write into.
 
 pub mod bench;
 pub mod check;
@@ -49,6 +50,7 @@ pub mod make;
 pub mod month;
 pub mod month_file;
 pub mod periodisation;
+pub mod plan;
 pub mod preview;
 pub mod random;
 pub mod reconciliation;

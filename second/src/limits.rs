@@ -1,4 +1,4 @@
-//! Every limit of 01, once, under the sentence that gives it ("Numbers that bound it", if not said otherwise).
+//! Every limit of 01 and 02, once, under the sentence that gives it ("Numbers that bound it" of 01, if not said otherwise).
 //!
 //! Ranges are of 128-bit numbers, so that any machine value can be asked about.
 
@@ -48,6 +48,10 @@ pub const CURVE_FACTOR: u128 = 1_000_000;
 pub const READING_WH_MAX: u64 = 1_000_000_000;
 /// "The service takes E and the weights alone, 1 to 8,784 hours of them." (Periodised consumption)
 pub const WEIGHTS: Range = 1..=8_784;
+/// "A yearly reading crosses up to thirteen month files." (02, W3)
+pub const READING_MONTHS: Range = 1..=13;
+/// "or the whole is over 8,784,000,000,000" (02, W3): so many hours at the largest curve number.
+pub const WHOLE_WEIGHT_MAX: u128 = 8_784_000_000_000;
 /// "All periodised consumption in an hour at most 2,000,000,000."
 pub const PERIODISED_HOUR_WH_MAX: i128 = 2_000_000_000;
 

@@ -7,7 +7,8 @@
 //! - `second check --program PATH --seed S --count N` compares another statement program with this one, or with `--report
 //!   hours` or `--report preview` another of those; a long campaign is run with `--threads T`, and with `--feed whole` (or
 //!   `pieces`) instead of both.
-//! - `second example NAME` writes the month file of an example (s1, full, silent, d3, before, after, ore).
+//! - `second example NAME` writes the month file of an example (s1, full, silent, d3, before, after, ore,
+//!   yearly1, yearly2, yearly3).
 //! - `second bench-file ..` writes a month file of a chosen size (bench/README.md).
 
 use std::io::{self, Read, Write};
@@ -26,7 +27,7 @@ const USAGE: &str = "usage: second statement|hours|preview < FILE
        second make --seed S --count N --out DIR
        second check --program PATH --seed S --count N [--report statement|hours|preview]
            [--feed whole|pieces|both] [--threads T]
-       second example s1|full|silent|d3|before|after|ore
+       second example s1|full|silent|d3|before|after|ore|yearly1|yearly2|yearly3
        second bench-file --hours H --parties P --series fixed|refixed --readings N|most --span HOURS [--fault byte|count]";
 
 fn main() -> ExitCode {

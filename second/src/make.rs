@@ -16,12 +16,13 @@ use crate::draft::{measured_hour, prices_of, Draft, DraftParty};
 use crate::gln::{with_check_digit, Gln};
 use crate::limits::{
     CURVE_FACTOR, CURVE_NUMBER_MAX, FILE_BYTES_MAX, HOURS, PARTIES, READING_WH_MAX,
-    RESIDUAL_WH_MAX, STATUS_ESTIMATED, STATUS_MEASURED,
+    RESIDUAL_WH_MAX, SHARE_SUM_KWH, STATUS_ESTIMATED, STATUS_MEASURED, WHOLE_WEIGHT_MAX,
 };
 use crate::month::{settle, Month};
 use crate::periodisation::periodised_wh;
+use crate::plan::plan;
 use crate::random::Random;
-use crate::record::{Heading, HourFlows, Reading};
+use crate::record::{Heading, HourFlows, Reading, Weights};
 use crate::refusal::{Number, Refusal};
 use crate::report::Report;
 use crate::residual::{curve_number, residual_wh};
@@ -66,7 +67,8 @@ impl MadeFile {
     }
 }
 
-/// "Then 6; then the fixed hours in order, each 7, 8, 9; .. 10 by hour; 13 by reading; 14 by hour"
+/// "Then 6; then the fixed hours in order, each 7, 8, 9; .. 10 by hour; 13 by reading; 14 by hour", and 18 before the 13 of
+/// the same reading (02, W3).
 fn is_after_the_reading(number: Number) -> bool {
     matches!(
         number,
@@ -76,6 +78,7 @@ fn is_after_the_reading(number: Number) -> bool {
             | Number::ResidualTooLarge
             | Number::CurveNumberTooLarge
             | Number::NoWeight
+            | Number::TooMuchWeight
             | Number::TooMuchPeriodised
     )
 }
@@ -130,7 +133,7 @@ pub struct Tally {
     /// Of the accepted ones, those that are not refixed.
     pub not_refixed: u64,
     /// By refusal number.
-    pub refused: [u64; 18],
+    pub refused: [u64; 19],
 }
 
 impl Tally {
@@ -140,17 +143,17 @@ impl Tally {
             accepted: 0,
             of_full_size: 0,
             not_refixed: 0,
-            refused: [0; 18],
+            refused: [0; 19],
         }
     }
 
-    /// The refusals that a file can get in this setting: 1 to 15, and a final run's 17.
+    /// The refusals that a file can get in this setting: 1 to 15, a final run's 17, and 18.
     fn numbers(&self) -> impl Iterator<Item = usize> {
         let of_setting = match self.setting {
             Setting::Final => Some(17),
             Setting::Provisional => None,
         };
-        (1..=15).chain(of_setting)
+        (1..=15).chain(of_setting).chain([18])
     }
 
     pub fn count(&mut self, judged: &Result<Month, Refusal>) {
@@ -296,6 +299,20 @@ pub const SHAPES: &[(&str, Shape)] = &[
         let (parties, readings) = (1 + random.below(8), random.between(500, most) as usize);
         month(random, hours, parties, refixed, readings)
     }),
+    ("readings over several months", |random| {
+        let (hours, parties) = (2 + random.below(20), 1 + random.below(5));
+        let refixed = is_refixed(random);
+        let mut draft = month(random, hours, parties, refixed, 0);
+        let (of_month, over_months) = (random.below(5), 2 + random.below(6));
+        add_readings_of_kinds(random, &mut draft, of_month, over_months);
+        draft
+    }),
+    ("planned readings", planned_readings),
+    ("weights at their limits", weights_at_limits),
+    (
+        "readings over several months without weight here",
+        no_weight_here,
+    ),
     ("E 0 over zero weights", nothing_over_zero_weights),
     ("E at its limit", |random| {
         let refixed = is_refixed(random);
@@ -582,38 +599,104 @@ pub fn random_hour(random: &mut Random, hour: usize, residual_wh: i64) -> HourFl
     }
 }
 
-/// Adds random readings, overlapping as they fall, each with an E that the curve and the hours' limit still take.
+/// The bytes of a 04 and of an 08 record.
+const BYTES_OF_MONTH: usize = 10;
+const BYTES_OVER_MONTHS: usize = 26;
+
+/// Adds so many random readings, about a quarter of them over several months, where the file has room for these.
 pub fn add_readings(random: &mut Random, draft: &mut Draft, count: usize) {
+    let longer = BYTES_OVER_MONTHS - BYTES_OF_MONTH;
+    let most = spare_bytes(draft).saturating_sub(count * BYTES_OF_MONTH) / longer;
+    let wanted = (0..count).filter(|_| random.once_in(4)).count();
+    let over_months = wanted.min(most);
+    add_readings_of_kinds(random, draft, count - over_months, over_months);
+}
+
+/// What a file of this draft may still grow by, if a damage is to add a refixed series and a few records and it is still
+/// to be no longer than a file may be.
+fn spare_bytes(draft: &Draft) -> usize {
+    let refixed = if draft.refixed.is_empty() {
+        36 * draft.fixed.len()
+    } else {
+        0
+    };
+    FILE_BYTES_MAX.saturating_sub(draft.bytes().len() + refixed + 1_000)
+}
+
+/// Adds random readings of this month and over several, so many of each, in any order and overlapping as they fall, each
+/// with an E that the curve and the hours' limit still take.
+fn add_readings_of_kinds(
+    random: &mut Random,
+    draft: &mut Draft,
+    of_month: usize,
+    over_months: usize,
+) {
+    let mut are_over_months = vec![false; of_month];
+    are_over_months.resize(of_month + over_months, true);
+    random.shuffle(&mut are_over_months);
     let curve = curve(draft);
     let mut room_wh = vec![2_000_000_000u64; curve.len()];
-    for _ in 0..count {
+    for is_over_months in are_over_months {
         let a = random.below(curve.len());
         let b = random.between(a as i64 + 1, curve.len() as i64) as usize;
+        let weights = is_over_months.then(|| random_weights(random, own_weight(&curve[a..b])));
         let wanted_wh = match random.below(8) {
             0 => 0,
             1 => READING_WH_MAX,
             _ => random.any_size(READING_WH_MAX),
         };
-        let e_wh = fitting_e_wh(wanted_wh, &curve[a..b], &mut room_wh[a..b]);
-        add_reading(random, draft, a, b, e_wh as u32);
+        let e_wh = fitting_e_wh(wanted_wh, weights, &curve[a..b], &mut room_wh[a..b]);
+        add_reading(random, draft, a, b, e_wh as u32).weights = weights;
     }
 }
 
-/// Adds a reading of a random party.
-fn add_reading(random: &mut Random, draft: &mut Draft, a: usize, b: usize, e_wh: u32) {
-    draft.readings.push(Reading {
-        party: random.below(draft.parties.len()) as u8,
-        a: a as u16,
-        b: b as u16,
-        e_wh,
-    });
+/// Adds a reading of a random party within this month, and hands it back to be changed.
+fn add_reading<'a>(
+    random: &mut Random,
+    draft: &'a mut Draft,
+    a: usize,
+    b: usize,
+    e_wh: u32,
+) -> &'a mut Reading {
+    let party = random.below(draft.parties.len()) as u8;
+    let reading = Reading::of_month(party, a as u16, b as u16, e_wh);
+    draft.readings.push(reading);
+    draft.readings.last_mut().expect("one was added")
+}
+
+/// The month's own weight of a reading over these numbers of its curve.
+pub fn own_weight(curve: &[u32]) -> u64 {
+    curve.iter().map(|&number| u64::from(number)).sum()
+}
+
+/// Good weights of a reading over several months with this weight in this one: months before it, after it, both, neither;
+/// about as heavy as this one, or of any size.
+pub fn random_weights(random: &mut Random, own: u64) -> Weights {
+    let most = WHOLE_WEIGHT_MAX as u64 - own;
+    let mut other = |most: u64| match random.below(4) {
+        0 => 0,
+        1 => random.any_size(most),
+        2 => random.any_size(own).min(most),
+        _ => random.between(0, 6 * own as i64 + 6).min(most as i64) as u64,
+    };
+    let before = other(most);
+    let after = other(most - before);
+    Weights {
+        before,
+        whole: before + own + after,
+    }
 }
 
 /// The wanted E, or less of it where the hours have no room for it, or 0 where there is no weight. Takes the room.
-fn fitting_e_wh(wanted_wh: u64, weights: &[u32], room_wh: &mut [u64]) -> u64 {
+fn fitting_e_wh(
+    wanted_wh: u64,
+    of_reading: Option<Weights>,
+    weights: &[u32],
+    room_wh: &mut [u64],
+) -> u64 {
     let mut e_wh = wanted_wh;
     while e_wh > 0 {
-        let Ok(figures) = periodised_wh(e_wh, weights) else {
+        let Ok(figures) = periodised_wh(e_wh, of_reading, weights) else {
             return 0;
         };
         if figures
@@ -631,9 +714,10 @@ fn fitting_e_wh(wanted_wh: u64, weights: &[u32], room_wh: &mut [u64]) -> u64 {
     0
 }
 
-/// The curve of a draft whose fixed hours and shares are good.
-fn curve(draft: &Draft) -> Vec<u32> {
-    let share_sum = draft.share_sum_kwh() as u64;
+/// The curve of a draft whose fixed hours and shares are good; of another, some numbers.
+pub fn curve(draft: &Draft) -> Vec<u32> {
+    let [least, most] = [SHARE_SUM_KWH.start(), SHARE_SUM_KWH.end()].map(|&limit| limit as u128);
+    let share_sum = draft.share_sum_kwh().clamp(least, most) as u64;
     let residuals = draft.fixed.iter().map(residual_of);
     residuals
         .map(|residual| curve_number(residual, share_sum) as u32)
@@ -770,7 +854,8 @@ fn curve_number_at_limit(random: &mut Random) -> Draft {
     draft
 }
 
-/// A file of exactly 65,536 bytes: readings fill what hours and parties leave, over 6,000 of them in a month of few hours.
+/// A file of exactly 65,536 bytes: readings fill what hours and parties leave, over 6,000 of them in a month of few hours,
+/// or 2,500 if all are over several months.
 fn longest_file(random: &mut Random) -> Draft {
     loop {
         let few_hours = 1 + random.below(9);
@@ -779,12 +864,112 @@ fn longest_file(random: &mut Random) -> Draft {
         let (parties, refixed) = (1 + random.below(64), is_refixed(random));
         let mut draft = month(random, hours, parties, refixed, 0);
         let left = FILE_BYTES_MAX - draft.bytes().len();
-        let one_reading = 10;
-        if left.is_multiple_of(one_reading) {
-            add_readings(random, &mut draft, left / one_reading);
+        let most = left / BYTES_OVER_MONTHS;
+        let some = random.below(most + 1);
+        let over_months = *random.pick(&[0, some, most]);
+        let left = left - over_months * BYTES_OVER_MONTHS;
+        if left.is_multiple_of(BYTES_OF_MONTH) {
+            let of_month = left / BYTES_OF_MONTH;
+            add_readings_of_kinds(random, &mut draft, of_month, over_months);
             return draft;
         }
     }
+}
+
+/// Readings of a year or less, planned over this month and others before and after it, beside one of this month alone.
+fn planned_readings(random: &mut Random) -> Draft {
+    let (hours, parties) = (1 + random.below(24), 1 + random.below(5));
+    let refixed = is_refixed(random);
+    let mut draft = month(random, hours, parties, refixed, 1);
+    let curve = curve(&draft);
+    for _ in 0..1 + random.below(4) {
+        let party = random.below(parties) as u8;
+        draft
+            .readings
+            .extend(planned_reading(random, party, &curve));
+    }
+    random.shuffle(&mut draft.readings);
+    draft
+}
+
+/// The record of this month of a reading that is planned over it and others; none where no curve has any weight. Its E is
+/// so small that the hours take several of them.
+fn planned_reading(random: &mut Random, party: u8, curve: &[u32]) -> Option<Reading> {
+    let months = 1 + random.below(13);
+    let this = random.below(months);
+    let mut parties: Vec<u8> = (0..months).map(|_| random.below(64) as u8).collect();
+    let mut curves: Vec<Vec<u32>> = (0..months).map(|_| other_curve(random, curve)).collect();
+    parties[this] = party;
+    curves[this] = curve.to_vec();
+    let hours: Vec<u16> = curves.iter().map(|curve| curve.len() as u16).collect();
+    let a = random.below(curves[0].len()) as u16;
+    let from = if months == 1 { a + 1 } else { 1 };
+    let b = random.between(from.into(), hours[months - 1].into()) as u16;
+    let e_wh = random.any_size(200_000_000);
+    let planned = plan(e_wh, a, b, &parties, &hours, &curves.concat()).ok()?;
+    Some(planned[this])
+}
+
+/// A few hours of another month, with numbers about as large as this one's.
+fn other_curve(random: &mut Random, curve: &[u32]) -> Vec<u32> {
+    let hours = 1 + random.below(24);
+    (0..hours)
+        .map(|_| *random.pick(curve) / 2 + *random.pick(curve) / 2)
+        .collect()
+}
+
+/// What lies before and in this month is the whole, alone and up to the largest there is, with an E up to its limit.
+fn weights_at_limits(random: &mut Random) -> Draft {
+    let refixed = is_refixed(random);
+    let mut draft = month_of_residual(random, 2_000_000_000, refixed);
+    let curve = curve(&draft);
+    let own = own_weight(&curve);
+    let largest = WHOLE_WEIGHT_MAX as u64;
+    let any_before = 1 + random.any_size(largest - own - 1);
+    for (before, whole) in [
+        (any_before, any_before + own),
+        (largest - own, largest),
+        (0, largest),
+        (0, own),
+    ] {
+        let e_wh = *random.pick(&[0, 1, 7, 400_000_000, 500_000_000]);
+        let reading = add_reading(random, &mut draft, 0, curve.len(), e_wh);
+        *reading = reading.weighing(before, whole);
+    }
+    random.shuffle(&mut draft.readings);
+    draft
+}
+
+/// Hours of real zeros: a reading with all of its weight in other months, which may have any E, and readings of 0 without
+/// any weight at all.
+fn no_weight_here(random: &mut Random) -> Draft {
+    let refixed = is_refixed(random);
+    let mut draft = month(random, 6, 3, refixed, 0);
+    for hour in 2..4 {
+        draft.fixed[hour] = random_hour(random, hour, 0);
+    }
+    let weights = Weights {
+        before: random.any_size(9_000),
+        whole: random.between(9_000, 9_000_000_000) as u64,
+    };
+    for (e_wh, weights) in [
+        (READING_WH_MAX as u32, Some(weights)),
+        (1, Some(weights)),
+        (0, Some(weights)),
+        (
+            0,
+            Some(Weights {
+                before: 0,
+                whole: 0,
+            }),
+        ),
+        (0, None),
+    ] {
+        add_reading(random, &mut draft, 2, 4, e_wh).weights = weights;
+    }
+    random.shuffle(&mut draft.readings);
+    add_readings(random, &mut draft, 3);
+    draft
 }
 
 /// All is distributed to party 0, every hour 2,000,000,000 Wh at the highest price, and all is read at party 1. With a
@@ -807,12 +992,7 @@ fn largest_amounts(random: &mut Random) -> Draft {
         hours_read = 300;
     }
     for hour in 0..hours_read {
-        let reading = Reading {
-            party: 1,
-            a: hour as u16,
-            b: hour as u16 + 1,
-            e_wh: READING_WH_MAX as u32,
-        };
+        let reading = Reading::of_month(1, hour as u16, hour as u16 + 1, READING_WH_MAX as u32);
         draft.readings.extend([reading; 2]);
     }
     draft

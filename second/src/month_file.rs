@@ -1,4 +1,4 @@
-//! The walk through a whole month file, record by record. (01, "The month file" and "Refusal numbers")
+//! The walk through a whole month file, record by record. (01, "The month file" and "Refusal numbers"; 02, W3)
 //!
 //! "The file is read first, record by record: 2, then 1, 3, 4, 5, 11, 12, 15." One pass over the records, and for each
 //! record all tests in that order before the next record is looked at.
@@ -18,6 +18,7 @@ pub struct MonthFile<'a> {
     /// Empty if the file has no refixed series.
     pub refixed: Vec<HourFlows>,
     pub prices: Vec<Price>,
+    /// "'reading' in 01 counts 04 and 08 together" (02, W3): both, in file order.
     pub readings: Vec<Reading>,
 }
 
@@ -66,7 +67,7 @@ struct SoFar<'a> {
 
 impl<'a> SoFar<'a> {
     /// "Order: one 01; P times 02; H times 03; none or H times 06; H times 05; any number of 04; one 07. Hour fields
-    /// run 0, 1, 2 and so on".
+    /// run 0, 1, 2 and so on". An 08 "stands among the 04 records" (02, W3).
     fn expects(&self, record: &Record) -> bool {
         let Some(heading) = self.heading else {
             return matches!(record, Record::Heading(_));

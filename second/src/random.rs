@@ -45,6 +45,13 @@ impl Random {
         &items[self.below(items.len())]
     }
 
+    /// Puts the items into another order.
+    pub fn shuffle<T>(&mut self, items: &mut [T]) {
+        for left in (2..=items.len()).rev() {
+            items.swap(left - 1, self.below(left));
+        }
+    }
+
     /// A number from 0 to high of any size: small ones are as common as large ones.
     pub fn any_size(&mut self, high: u64) -> u64 {
         let bits = 64 - high.leading_zeros() as usize;

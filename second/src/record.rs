@@ -1,5 +1,5 @@
 //! One record of the month file: its kinds and body lengths, its fields as big-endian bytes, the judgement of its
-//! fields, and reading and writing one record alone. (01, "The month file")
+//! fields, and reading and writing one record alone. (01, "The month file"; 02, W3)
 //!
 //! A new kind is a line in `body_length`, a variant of `Record`, and its arm in each `match` below.
 
@@ -14,6 +14,7 @@ pub const READING: u8 = 0x04;
 pub const PRICE: u8 = 0x05;
 pub const REFIXED_HOUR: u8 = 0x06;
 pub const END: u8 = 0x07;
+pub const YEARLY_READING: u8 = 0x08;
 
 /// "The body lengths, by kind, are these". None for an unknown kind.
 pub fn body_length(kind: u8) -> Option<usize> {
@@ -25,6 +26,8 @@ pub fn body_length(kind: u8) -> Option<usize> {
         PRICE => Some(6),
         READING => Some(9),
         END => Some(4),
+        // "A new record 08 (body 25: ..)" (02, W3)
+        YEARLY_READING => Some(25),
         _ => None,
     }
 }
@@ -65,13 +68,44 @@ pub struct Price {
     pub price_ore: i32,
 }
 
-/// "party 1, a 2, b 2, E 4": E Wh over the hours from a to before b.
+/// "party 1, a 2, b 2, E 4": E Wh over the hours from a to before b. Of a reading over several months this is the part in
+/// one of them: the hours are this month's, and E is the whole reading's.
 #[derive(Clone, Copy, Debug, PartialEq, Eq)]
 pub struct Reading {
     pub party: u8,
     pub a: u16,
     pub b: u16,
     pub e_wh: u32,
+    /// Of an 08 record. A 04 has none: it is a reading of which nothing lies outside its hours.
+    pub weights: Option<Weights>,
+}
+
+/// "weight before this month 8, weight of the whole reading 8" (02, W3)
+#[derive(Clone, Copy, Debug, PartialEq, Eq)]
+pub struct Weights {
+    pub before: u64,
+    pub whole: u64,
+}
+
+impl Reading {
+    /// A reading within one month: a 04 record.
+    pub const fn of_month(party: u8, a: u16, b: u16, e_wh: u32) -> Reading {
+        Reading {
+            party,
+            a,
+            b,
+            e_wh,
+            weights: None,
+        }
+    }
+
+    /// The same hours and E as the part of a reading over several months: an 08 record.
+    pub const fn weighing(self, before: u64, whole: u64) -> Reading {
+        Reading {
+            weights: Some(Weights { before, whole }),
+            ..self
+        }
+    }
 }
 
 /// One record, kind and fields.
@@ -82,6 +116,7 @@ pub enum Record<'a> {
     Fixed(HourFlows),
     Refixed(HourFlows),
     Price(Price),
+    /// 04, or 08 if it has weights.
     Reading(Reading),
     /// "number of records before it"
     End(u32),
@@ -95,7 +130,10 @@ impl<'a> Record<'a> {
             Record::Fixed(_) => FIXED_HOUR,
             Record::Refixed(_) => REFIXED_HOUR,
             Record::Price(_) => PRICE,
-            Record::Reading(_) => READING,
+            Record::Reading(reading) => match reading.weights {
+                None => READING,
+                Some(_) => YEARLY_READING,
+            },
             Record::End(_) => END,
         }
     }
@@ -122,12 +160,12 @@ impl<'a> Record<'a> {
                 hour: fields.number(2) as u16,
                 price_ore: fields.number(4) as u32 as i32,
             }),
-            READING => Record::Reading(Reading {
-                party: fields.number(1) as u8,
-                a: fields.number(2) as u16,
-                b: fields.number(2) as u16,
-                e_wh: fields.number(4) as u32,
-            }),
+            READING => Record::Reading(fields.reading()),
+            YEARLY_READING => {
+                let reading = fields.reading();
+                let (before, whole) = (fields.number(8), fields.number(8));
+                Record::Reading(reading.weighing(before, whole))
+            }
             END => Record::End(fields.number(4) as u32),
             _ => return None,
         })
@@ -166,6 +204,10 @@ impl<'a> Record<'a> {
                 bytes.extend(reading.a.to_be_bytes());
                 bytes.extend(reading.b.to_be_bytes());
                 bytes.extend(reading.e_wh.to_be_bytes());
+                if let Some(weights) = reading.weights {
+                    bytes.extend(weights.before.to_be_bytes());
+                    bytes.extend(weights.whole.to_be_bytes());
+                }
             }
             Record::End(count) => bytes.extend(count.to_be_bytes()),
         }
@@ -193,12 +235,18 @@ impl<'a> Record<'a> {
                 hour.flex_wh.into(),
             ],
             Record::Price(price) => vec![price.hour.into(), price.price_ore.into()],
-            Record::Reading(reading) => vec![
-                reading.party.into(),
-                reading.a.into(),
-                reading.b.into(),
-                reading.e_wh.into(),
-            ],
+            Record::Reading(reading) => {
+                let mut fields = vec![
+                    reading.party.into(),
+                    reading.a.into(),
+                    reading.b.into(),
+                    reading.e_wh.into(),
+                ];
+                if let Some(weights) = reading.weights {
+                    fields.extend([i128::from(weights.before), i128::from(weights.whole)]);
+                }
+                fields
+            }
             Record::End(count) => vec![count.into()],
         }
     }
@@ -234,6 +282,12 @@ impl<'a> Fields<'a> {
             flex_wh: self.number(8),
         }
     }
+
+    /// What a 04 holds and an 08 begins with.
+    fn reading(&mut self) -> Reading {
+        let (party, a, b) = (self.number(1), self.number(2), self.number(2));
+        Reading::of_month(party as u8, a as u16, b as u16, self.number(4) as u32)
+    }
 }
 
 /// What a record's fields are judged against besides themselves: in a file its H, its P and the GLN before; alone the
@@ -253,7 +307,7 @@ impl Surroundings<'_> {
     };
 }
 
-/// The judgement of one record's fields: 4, 5, 11, 12, in that order.
+/// The judgement of one record's fields: 4, 5, 11, 12, in that order. Any weights pass it.
 pub fn judge_fields(record: &Record, around: &Surroundings) -> Result<(), Number> {
     if !fields_within_ranges(record, around) {
         return Err(Number::OutsideRange);
@@ -355,8 +409,8 @@ pub fn write(record: &Record, lent: &mut [u8]) -> Result<usize, Refusal> {
 /// The writer with the kind as a number and the fields as a list of numbers (READINGS A43): 2 first; a list of another
 /// length than the kind has is 4. The GLN is looked at for a party only.
 ///
-/// A number that its field could not hold is outside its range. It is 4 where it is negative or an end count; a too
-/// large a or b stays 11 and a too large E 12, as 01 says of them.
+/// A number that its field could not hold is outside its range. It is 4 where it is negative, an end count or a weight; a
+/// too large a or b stays 11 and a too large E 12, as 01 says of them.
 pub fn write_plain(
     kind: u64,
     fields: &[i128],
@@ -373,7 +427,7 @@ pub fn write_plain(
 
 /// The record of these numbers, each brought to the nearest one that its field can hold: so a number outside its range
 /// stays outside. None where that does not help: a wrong number of fields, a negative number in an unsigned field (it
-/// would become a good 0), an end count beyond its four bytes (any four bytes are good).
+/// would become a good 0), an end count or a weight beyond its bytes (any bytes of theirs are good).
 fn record_of_numbers<'a>(kind: u8, fields: &[i128], gln: &'a [u8]) -> Option<Record<'a>> {
     if fields
         .iter()
@@ -401,12 +455,11 @@ fn record_of_numbers<'a>(kind: u8, fields: &[i128], gln: &'a [u8]) -> Option<Rec
             hour: held_u16(hour),
             price_ore: price.clamp(i32::MIN.into(), i32::MAX.into()) as i32,
         }),
-        (READING, &[party, a, b, e]) => Record::Reading(Reading {
-            party: held_u8(party),
-            a: held_u16(a),
-            b: held_u16(b),
-            e_wh: e.clamp(0, u32::MAX.into()) as u32,
-        }),
+        (READING, &[party, a, b, e]) => Record::Reading(reading_of_numbers(party, a, b, e)),
+        (YEARLY_READING, &[party, a, b, e, before, whole]) => {
+            let (before, whole) = (u64::try_from(before).ok()?, u64::try_from(whole).ok()?);
+            Record::Reading(reading_of_numbers(party, a, b, e).weighing(before, whole))
+        }
         (END, &[count]) => Record::End(u32::try_from(count).ok()?),
         _ => return None,
     })
@@ -424,6 +477,11 @@ fn hour_flows_of_numbers(fields: &[i128]) -> Option<HourFlows> {
         hourly_wh: held_u64(hourly),
         flex_wh: held_u64(flex),
     })
+}
+
+fn reading_of_numbers(party: i128, a: i128, b: i128, e: i128) -> Reading {
+    let e_wh = e.clamp(0, u32::MAX.into()) as u32;
+    Reading::of_month(held_u8(party), held_u16(a), held_u16(b), e_wh)
 }
 
 /// "net supply and price are two's complement", all other numbers unsigned.

@@ -40,6 +40,8 @@ pub enum Number {
     WrongOutputLength = 16,
     /// W1: "no refixed series in a final run"
     NoRefixedSeries = 17,
+    /// W3: "weight before plus the month's own weight exceeds the whole, or the whole is over 8,784,000,000,000"
+    TooMuchWeight = 18,
 }
 
 impl Number {

@@ -16,7 +16,7 @@ fn changed(change: impl FnOnce(&mut Draft)) -> Vec<u8> {
 }
 
 fn reading(party: u8, a: u16, b: u16, e_wh: u32) -> Reading {
-    Reading { party, a, b, e_wh }
+    Reading::of_month(party, a, b, e_wh)
 }
 
 fn silence(draft: &mut Draft, hour: usize) {

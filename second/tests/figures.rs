@@ -246,12 +246,7 @@ fn bounds_e_1_000_000_000_accepted_one_more_is_12() {
     assert_eq!(told(periodisation(1_000_000_001, &[5], 1)), (12, 0));
     let mut draft = examples::s1();
     draft.fixed[0] = measured_hour(0, 40_000_000);
-    draft.readings = vec![Reading {
-        party: 0,
-        a: 0,
-        b: 1,
-        e_wh: 1_000_000_000,
-    }];
+    draft.readings = vec![Reading::of_month(0, 0, 1, 1_000_000_000)];
     assert_accepted(&draft.bytes());
     draft.readings[0].e_wh += 1;
     assert_refused(&draft.bytes(), 12, 13);

@@ -166,12 +166,7 @@ fn fixed_and_applied_statuses_are_told_apart() {
 #[test]
 fn a_negative_loss_is_printed() {
     let text = changed(|draft| {
-        draft.readings = vec![Reading {
-            party: 1,
-            a: 0,
-            b: 3,
-            e_wh: 200_000_000,
-        }];
+        draft.readings = vec![Reading::of_month(1, 0, 3, 200_000_000)];
     });
     // Weights 4 : 5 : 4. 200,000,000 x 4/13 and x 9/13 are 61,538,461.5 and 138,461,538.5, rounded down.
     let expected = [

@@ -15,6 +15,7 @@ use second::limits::FILE_BYTES_MAX;
 use second::make::{file, files, month, write_files, Aim, MadeFile, Tally, SHAPES};
 use second::month::{settle, Month, PartySums};
 use second::random::Random;
+use second::record::Weights;
 use second::report::Report;
 use second::setting::Setting;
 
@@ -72,7 +73,7 @@ fn about_a_fifth_of_the_months_are_not_refixed() {
     assert!(as_final.accepted > 400 && as_final.not_refixed == 0);
     assert!(as_provisional.not_refixed > 100);
     // Everything that comes after the reading is still told by final runs, and by provisional ones of such months.
-    for number in [6, 7, 8, 9, 10, 13, 14] {
+    for number in [6, 7, 8, 9, 10, 13, 14, 18] {
         let (told, told_in_all) = (as_final.refused[number], as_provisional.refused[number]);
         assert!(told >= 8 && told_in_all > told, "{number}");
     }
@@ -84,11 +85,11 @@ fn what_did_not_occur_is_named() {
     for (setting, end) in [
         (
             Setting::Final,
-            "; refused 15; refused 17; accepted, small; accepted, of full size; accepted, refixed",
+            "; refused 15; refused 17; refused 18; accepted, small; accepted, of full size; accepted, refixed",
         ),
         (
             Setting::Provisional,
-            "; refused 15; accepted, small; accepted, of full size; accepted, refixed; accepted, not refixed",
+            "; refused 15; refused 18; accepted, small; accepted, of full size; accepted, refixed; accepted, not refixed",
         ),
     ] {
         let mut tally = Tally::new(setting);
@@ -115,13 +116,13 @@ fn what_did_not_occur_is_named() {
         assert_eq!((twice.of_full_size, twice.not_refixed), (2, 2 * provisional));
         assert_eq!((twice.refused[1], twice.refused[17]), (2, 2 - 2 * provisional));
         let missing = twice.complete().unwrap_err();
-        assert!(missing.ends_with("; refused 15"), "{missing}");
+        assert!(missing.ends_with("; refused 15; refused 18"), "{missing}");
     }
 }
 
 #[test]
-fn all_shapes_occur_in_100_files_and_all_damages_in_one_round() {
-    let shapes: BTreeSet<&str> = files(3, 100)
+fn all_shapes_occur_in_115_files_and_all_damages_in_one_round() {
+    let shapes: BTreeSet<&str> = files(3, 115)
         .filter(|made| made.provisional_aim == Aim::Accepted)
         .map(|made| made.name)
         .collect();
@@ -138,6 +139,18 @@ fn all_shapes_occur_in_100_files_and_all_damages_in_one_round() {
 }
 
 type Property = fn(&MadeFile, &Month) -> bool;
+
+/// Whether a reading over several months is so, by its weights, its weight in this month, and its E.
+fn any_08(month: &Month, is_so: fn(Weights, u64, u32) -> bool) -> bool {
+    let mut readings = month.file.readings.iter();
+    readings.any(|reading| {
+        let span = usize::from(reading.a)..usize::from(reading.b);
+        let own = month.curve[span].iter().map(|&n| u64::from(n)).sum();
+        reading
+            .weights
+            .is_some_and(|weights| is_so(weights, own, reading.e_wh))
+    })
+}
 
 /// What the names of the shapes say.
 const PROPERTIES: &[(&str, Property)] = &[
@@ -188,6 +201,51 @@ const PROPERTIES: &[(&str, Property)] = &[
                 && month.curve.iter().any(|&n| n > 0)
         })
     }),
+    ("a 04 after an 08", |_, month| {
+        let readings = &month.file.readings;
+        let first_08 = readings.iter().position(|r| r.weights.is_some());
+        first_08.is_some_and(|first| readings[first..].iter().any(|r| r.weights.is_none()))
+    }),
+    ("many 08 records", |_, month| {
+        let readings = month.file.readings.iter();
+        readings.filter(|reading| reading.weights.is_some()).count() > 1_000
+    }),
+    (
+        "weight before, and here the last of the whole",
+        |_, month| {
+            any_08(month, |weights, own, e_wh| {
+                weights.before > 0 && weights.before + own == weights.whole && own > 0 && e_wh > 0
+            })
+        },
+    ),
+    ("weight before and after", |_, month| {
+        any_08(month, |weights, own, e_wh| {
+            weights.before > 0 && weights.before + own < weights.whole && own > 0 && e_wh > 0
+        })
+    }),
+    ("E, and no weight here", |_, month| {
+        any_08(month, |weights, own, e_wh| {
+            weights.whole > 0 && own == 0 && e_wh > 0
+        })
+    }),
+    ("an 08 without any weight", |_, month| {
+        any_08(month, |weights, _, _| weights.whole == 0)
+    }),
+    ("largest whole weight", |_, month| {
+        any_08(month, |weights, own, _| {
+            weights.whole == 8_784_000_000_000 && weights.before + own == weights.whole
+        })
+    }),
+    (
+        "E of an 08 that does not divide before this month",
+        |_, month| {
+            any_08(month, |weights, own, e_wh| {
+                let whole = u128::from(weights.whole);
+                let rest = |weight: u64| u128::from(e_wh) * u128::from(weight) % whole.max(1);
+                own > 0 && rest(weights.before) > 0 && rest(weights.before + own) > 0
+            })
+        },
+    ),
     ("a figure of -1", |_, month| {
         let mut hours = month.hours.iter();
         hours.any(|hour| hour.distributed_wh.contains(&-1))

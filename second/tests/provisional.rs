@@ -112,7 +112,7 @@ fn a53_every_refusal_of_the_reading_comes_before_17() {
     assert_refused(&good[..good.len() - 1], 1, 19);
     assert_refused(&good[..good.len() - 5], 1, 19);
     let mut unknown = good.clone();
-    unknown[good.len() - 5] = 8;
+    unknown[good.len() - 5] = 9;
     assert_refused(&unknown, 2, 19);
     assert_refused(&not_refixed(|draft| draft.prices[2].hour = 1), 3, 9);
     assert_refused(&not_refixed(|draft| draft.readings[8].party = 3), 4, 18);
@@ -159,13 +159,10 @@ fn a53_17_comes_before_every_refusal_after_the_reading() {
     assert_hidden_by_17(&not_refixed(|draft| shares(draft, 1)), 10, 0);
     let weightless = not_refixed(|draft| draft.fixed[1] = measured_hour(1, 0));
     assert_hidden_by_17(&weightless, 13, 1);
+    let too_heavy = not_refixed(|draft| draft.readings[2] = draft.readings[2].weighing(1, 0));
+    assert_hidden_by_17(&too_heavy, 18, 2);
     let crowded = not_refixed(|draft| {
-        let reading = Reading {
-            party: 0,
-            a: 1,
-            b: 2,
-            e_wh: 1_000_000_000,
-        };
+        let reading = Reading::of_month(0, 1, 2, 1_000_000_000);
         draft.readings.extend([reading; 2]);
     });
     assert_hidden_by_17(&crowded, 14, 1);

@@ -1,4 +1,4 @@
-//! One record alone, READINGS A41 to A45: writing, reading, and the way there and back.
+//! One record alone, READINGS A41 to A45, and the record 08 of W3: writing, reading, and the way there and back.
 
 mod common;
 
@@ -25,12 +25,7 @@ const HOUR: HourFlows = HourFlows {
     hourly_wh: 40,
     flex_wh: 20,
 };
-const READING: Reading = Reading {
-    party: 63,
-    a: 744,
-    b: 745,
-    e_wh: 1_000_000_000,
-};
+const READING: Reading = Reading::of_month(63, 744, 745, 1_000_000_000);
 const PARTY: Party = Party {
     gln: b"5790001330552",
     load_share_kwh: 4_000_000_000,
@@ -76,6 +71,14 @@ fn the_bytes_of_a_record_are_kind_and_big_endian_fields() {
         lent[..10],
         [4, 63, 0x02, 0xE8, 0x02, 0xE9, 0x3B, 0x9A, 0xCA, 0]
     );
+    let part = READING.weighing(0x0102_0304_0506_0708, 8_784_000_000_000);
+    assert_eq!(write(&Record::Reading(part), &mut lent), Ok(26));
+    assert_eq!(
+        lent[..10],
+        [8, 63, 0x02, 0xE8, 0x02, 0xE9, 0x3B, 0x9A, 0xCA, 0]
+    );
+    assert_eq!(lent[10..18], [1, 2, 3, 4, 5, 6, 7, 8]);
+    assert_eq!(lent[18..26], [0, 0, 0x07, 0xFD, 0x2F, 0x33, 0x20, 0]);
     assert_eq!(write(&Record::Party(PARTY), &mut lent), Ok(22));
     assert_eq!(&lent[..14], b"\x025790001330552");
     assert_eq!(lent[14..22], [0, 0, 0, 0, 0xEE, 0x6B, 0x28, 0]);
@@ -349,13 +352,32 @@ fn a42_a_price() {
 #[test]
 fn a42_a_reading_is_4_then_11_then_12() {
     assert_eq!(written(Record::Reading(READING)), Ok(10));
-    let reading = |party, a, b, e_wh| Record::Reading(Reading { party, a, b, e_wh });
+    assert_refused_readings(Record::Reading);
+}
+
+/// The field rules of a reading, whatever record it becomes.
+fn assert_refused_readings(record: fn(Reading) -> Record<'static>) {
+    let reading = |party, a, b, e_wh| record(Reading::of_month(party, a, b, e_wh));
     assert_refused(reading(64, 5, 5, u32::MAX), 4);
     assert_refused(reading(63, 5, 5, u32::MAX), 11);
     assert_refused(reading(63, 6, 5, 0), 11);
     assert_refused(reading(63, 0, 746, 0), 11);
     assert_refused(reading(63, 65_535, 65_535, 0), 11);
     assert_refused(reading(63, 0, 745, 1_000_000_001), 12);
+}
+
+/// "The record writer takes any weights." (02, W3)
+#[test]
+fn w3_an_08_takes_any_weights_and_is_4_then_11_then_12() {
+    for before in [0, 1, 8_784_000_000_001, u64::MAX] {
+        for whole in [0, 1, 8_784_000_000_001, u64::MAX] {
+            let record = Record::Reading(READING.weighing(before, whole));
+            assert_eq!(written(record), Ok(26));
+            assert_eq!(read_alone(&record.encode()), Ok((record, 26)));
+        }
+    }
+    assert_refused_readings(|reading| Record::Reading(reading.weighing(0, 0)));
+    assert_refused_readings(|reading| Record::Reading(reading.weighing(u64::MAX, 1)));
 }
 
 #[test]
@@ -367,7 +389,7 @@ fn a42_the_end_count_is_any() {
 
 #[test]
 fn a43_the_plain_writer_tests_the_kind_first() {
-    for kind in [0, 8, 9, 10, 18, 255, 256 + 1, u64::MAX] {
+    for kind in [0, 9, 10, 18, 255, 256 + 8, u64::MAX] {
         let refused = write_plain(kind, &[i128::MIN; 9], b"", &mut []);
         assert_eq!(told(refused), (2, 0));
     }
@@ -375,7 +397,17 @@ fn a43_the_plain_writer_tests_the_kind_first() {
 
 #[test]
 fn a43_the_plain_writer_wants_the_fields_of_the_kind() {
-    for (kind, fields) in [(1, 6), (2, 1), (3, 6), (4, 4), (5, 2), (6, 6), (7, 1)] {
+    let kinds = [
+        (1, 6),
+        (2, 1),
+        (3, 6),
+        (4, 4),
+        (5, 2),
+        (6, 6),
+        (7, 1),
+        (8, 6),
+    ];
+    for (kind, fields) in kinds {
         for other in (0..9).filter(|&length| length != fields) {
             let refused = write_plain(kind, &vec![1; other], b"5790001330552", &mut [0; 40]);
             assert_eq!(told(refused), (4, 0));
@@ -406,16 +438,24 @@ fn a43_numbers_that_no_field_holds() {
     assert_eq!(plain(4, &[256, 0, 1, 0]), (4, 0));
     assert_eq!(plain(4, &[0, -1, 1, 0]), (4, 0));
     assert_eq!(plain(4, &[0, 0, 1, -1]), (4, 0));
+    // So of an 08, whose weights are 4 beyond their eight bytes, before its 11 and 12.
+    assert_eq!(plain(8, &[0, 65_536, 1, 0, 0, 0]), (11, 0));
+    assert_eq!(plain(8, &[0, 0, 1, 1 << 32, 0, 0]), (12, 0));
+    assert_eq!(plain(8, &[256, 0, 1, 0, 0, 0]), (4, 0));
+    assert_eq!(plain(8, &[0, 1, 1, 1 << 32, 1 << 64, 0]), (4, 0));
+    assert_eq!(plain(8, &[0, 1, 1, 1 << 32, 0, 1 << 64]), (4, 0));
+    assert_eq!(plain(8, &[0, 0, 1, 0, -1, 0]), (4, 0));
+    assert_eq!(plain(8, &[0, 0, 1, 0, 0, -1]), (4, 0));
 }
 
 #[test]
 fn a44_a_record_alone_is_1_2_1_then_its_fields() {
     assert_eq!(told(read_alone(&[])), (1, 0));
-    for kind in [0x00, 0x08, 0x09, 0x0A, 0x12, 0xFF] {
+    for kind in [0x00, 0x09, 0x0A, 0x12, 0xFF] {
         assert_eq!(told(read_alone(&[kind])), (2, 0));
         assert_eq!(told(read_alone(&[kind; 64])), (2, 0));
     }
-    for kind in 1..=7 {
+    for kind in 1..=8 {
         let length = body_length(kind).unwrap();
         for cut in 0..length {
             let mut part = vec![0xFF; 1 + cut];
@@ -447,7 +487,10 @@ fn random_record<'a>(random: &mut Random, gln: &'a [u8; 13]) -> Record<'a> {
         hourly_wh: random.any_size(8_000_000_000),
         flex_wh: random.any_size(8_000_000_000),
     };
-    match random.below(7) {
+    let b = random.between(i64::from(hour) + 1, 745) as u16;
+    let e_wh = random.any_size(1_000_000_000) as u32;
+    let reading = Reading::of_month(random.below(64) as u8, hour, b, e_wh);
+    match random.below(8) {
         0 => {
             let parties = 1 + random.below(64);
             Record::Heading(Heading {
@@ -469,12 +512,11 @@ fn random_record<'a>(random: &mut Random, gln: &'a [u8; 13]) -> Record<'a> {
             hour,
             price_ore: random.between(-5_000_000, 5_000_000) as i32,
         }),
-        5 => Record::Reading(Reading {
-            party: random.below(64) as u8,
-            a: hour,
-            b: random.between(i64::from(hour) + 1, 745) as u16,
-            e_wh: random.any_size(1_000_000_000) as u32,
-        }),
+        5 => Record::Reading(reading),
+        6 => {
+            let (before, whole) = (random.any_size(u64::MAX), random.any_size(u64::MAX));
+            Record::Reading(reading.weighing(before, whole))
+        }
         _ => Record::End(random.bits() as u32),
     }
 }

@@ -68,12 +68,7 @@ fn one_hour(residual_wh: i64, price_ore: i32, read_wh: [u32; 2]) -> String {
         draft.prices = prices_of([price_ore]);
         let readings = read_wh.into_iter().zip(0..);
         draft.readings = readings
-            .map(|(e_wh, party)| Reading {
-                party,
-                a: 0,
-                b: 1,
-                e_wh,
-            })
+            .map(|(e_wh, party)| Reading::of_month(party, 0, 1, e_wh))
             .collect();
     })
 }
@@ -130,12 +125,7 @@ fn a48_the_total_of_the_invoices_is_the_sum_of_the_printed_ones_and_0() {
 fn a49_a_zero_after_rounding_is_never_negative() {
     let text = changed(|draft| {
         draft.prices = prices_of([-1, 0, 0]);
-        draft.readings = vec![Reading {
-            party: 0,
-            a: 0,
-            b: 1,
-            e_wh: 6_349_999,
-        }];
+        draft.readings = vec![Reading::of_month(0, 0, 1, 6_349_999)];
         draft.heading.carrier = 2;
     });
     // Party 0: 6,349,999 - 5,850,000 in hour 0, 499,999 Wh at -1 øre per MWh: -499,999 millionths, so 500,001 over -1, the
@@ -157,12 +147,7 @@ fn a50_the_loss_is_in_the_carriers_difference_and_not_in_its_periodised() {
 #[test]
 fn a50_a_negative_loss_is_printed() {
     let text = changed(|draft| {
-        draft.readings = vec![Reading {
-            party: 1,
-            a: 0,
-            b: 3,
-            e_wh: 200_000_000,
-        }];
+        draft.readings = vec![Reading::of_month(1, 0, 3, 200_000_000)];
     });
     let total = "total 126000000 200000000 -74000000 0 ";
     assert!(text.lines().nth(4).unwrap().starts_with(total));
@@ -174,12 +159,7 @@ fn the_curve_comes_from_the_fixed_series() {
     let text = changed(|draft| {
         draft.prices = prices_of([1_000_000, 0, 0]);
         draft.heading.carrier = 2;
-        draft.readings = vec![Reading {
-            party: 0,
-            a: 0,
-            b: 2,
-            e_wh: 90_000_000,
-        }];
+        draft.readings = vec![Reading::of_month(0, 0, 2, 90_000_000)];
     });
     // Hour 0: 40,000,000 - 5,850,000 Wh at 1 øre per Wh.
     assert!(text.lines().nth(1).unwrap().ends_with(" 34150000"));

@@ -1,5 +1,5 @@
-//! Each compiled service beside the same algorithm in plain Rust, on 745 hours and 64 parties, one at a time so that
-//! instructions can be counted:
+//! Each compiled service beside the same algorithm in plain Rust, on 745 hours and 64 parties (the planner: twelve months, 8,784
+//! hours of 8,940), one at a time so that instructions can be counted:
 //!
 //!     SETTLE_LIB_DIR=.. cargo build --release --offline --example bench
 //!     valgrind --tool=callgrind target/release/examples/bench SERVICE compiled|plain TIMES

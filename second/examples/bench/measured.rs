@@ -4,7 +4,7 @@ use std::hint::black_box;
 
 use second::random::Random;
 
-use crate::compiled::{self, Told};
+use crate::compiled::{self, Told, Year};
 use crate::plain;
 
 const HOURS: usize = 745;
@@ -28,7 +28,7 @@ fn accepted<T>(told: Told<T>) -> T {
 pub fn run() {
     let arguments: Vec<String> = std::env::args().collect();
     let [_, service, which, times] = &arguments[..] else {
-        eprintln!("bench residual|curve|distribution|periodisation|reconciliation|invoice compiled|plain TIMES");
+        eprintln!("bench residual|curve|distribution|periodisation|plan|reconciliation|invoice compiled|plain TIMES");
         return;
     };
     let times: usize = times.parse().expect("TIMES is a number");
@@ -80,6 +80,19 @@ pub fn run() {
             let e = 987_654_321;
             let ours = || accepted(compiled::periodisation(e, black_box(&residuals), HOURS));
             let theirs = || accepted(plain::periodisation(e, black_box(&residuals), HOURS));
+            repeat(which, times, ours, theirs);
+        }
+        "plan" => {
+            let year = Year {
+                e: 987_654_321,
+                a: 100,
+                b: 689,
+                parties: vec![5; 12],
+                hours: vec![HOURS as u16; 12],
+                curves: residuals.repeat(12),
+            };
+            let ours = || accepted(compiled::plan(black_box(&year), [12; 4]));
+            let theirs = || accepted(plain::plan(black_box(&year), [12; 4]));
             repeat(which, times, ours, theirs);
         }
         "reconciliation" => {

@@ -1,7 +1,10 @@
 //! What several tests share.
 
+use second::draft::{measured_hour, prices_of, Draft, DraftParty};
+use second::gln::with_check_digit;
 use second::hours::hours;
 use second::preview::preview;
+use second::record::{Heading, HourFlows, Reading};
 use second::refusal::Refusal;
 use second::statement::statement;
 
@@ -11,6 +14,33 @@ pub fn told<T>(answer: Result<T, Refusal>) -> (u8, usize) {
     match answer {
         Ok(_) => panic!("accepted"),
         Err(refusal) => (refusal.number as u8, refusal.place),
+    }
+}
+
+/// April 2016 in area 7 with these load shares, fixed residuals (the refixed are the same) and readings; prices 0, carrier 0.
+#[allow(dead_code)]
+pub fn month_of(shares_kwh: &[u64], residuals_wh: &[i64], readings: &[Reading]) -> Draft {
+    let hours = residuals_wh.iter().enumerate();
+    let series: Vec<HourFlows> = hours.map(|(hour, &wh)| measured_hour(hour, wh)).collect();
+    let party = |(number, &load_share_kwh): (u64, &u64)| DraftParty {
+        gln: with_check_digit(number),
+        load_share_kwh,
+    };
+    Draft {
+        heading: Heading {
+            area: 7,
+            year: 2016,
+            month: 4,
+            hours: residuals_wh.len() as u16,
+            parties: shares_kwh.len() as u8,
+            carrier: 0,
+        },
+        parties: (1..).zip(shares_kwh).map(party).collect(),
+        fixed: series.clone(),
+        refixed: series,
+        prices: prices_of(residuals_wh.iter().map(|_| 0)),
+        readings: readings.to_vec(),
+        end_count: None,
     }
 }
 

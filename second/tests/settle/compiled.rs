@@ -39,6 +39,25 @@ extern "C" {
         out: *mut u32,
         out_len: usize,
     ) -> u64;
+    fn settle_plan(
+        e: u64,
+        a: u16,
+        b: u16,
+        parties: *const u8,
+        parties_len: usize,
+        hours: *const u16,
+        hours_len: usize,
+        curves: *const u32,
+        curves_len: usize,
+        out_a: *mut u16,
+        out_a_len: usize,
+        out_b: *mut u16,
+        out_b_len: usize,
+        out_before: *mut u64,
+        out_before_len: usize,
+        out_whole: *mut u64,
+        out_whole_len: usize,
+    ) -> u64;
     fn settle_reconciliation(
         residual: u32,
         distributed: *const i64,
@@ -153,6 +172,54 @@ pub fn periodisation(e: u64, weights: &[u32], lent: usize) -> Told<Vec<u32>> {
     };
     let unchanged = out.iter().all(|&figure| figure == PATTERN);
     told(answer, out, unchanged)
+}
+
+/// A reading over several months, as the planner is given it.
+#[derive(Clone, Debug)]
+pub struct Year {
+    pub e: u64,
+    pub a: u16,
+    pub b: u16,
+    pub parties: Vec<u8>,
+    pub hours: Vec<u16>,
+    pub curves: Vec<u32>,
+}
+
+/// The a, the b, the weight before and the weight of the whole reading of each month's record.
+pub type Plan = (Vec<u16>, Vec<u16>, Vec<u64>, Vec<u64>);
+
+pub fn plan(year: &Year, lent: [usize; 4]) -> Told<Plan> {
+    let (narrow, wide) = (PATTERN as u16, u64::from(PATTERN));
+    let mut spans = [lent[0], lent[1]].map(|length| vec![narrow; length]);
+    let mut weights = [lent[2], lent[3]].map(|length| vec![wide; length]);
+    let [a, b] = &mut spans;
+    let [before, whole] = &mut weights;
+    // SAFETY: as above.
+    let answer = unsafe {
+        settle_plan(
+            year.e,
+            year.a,
+            year.b,
+            year.parties.as_ptr(),
+            year.parties.len(),
+            year.hours.as_ptr(),
+            year.hours.len(),
+            year.curves.as_ptr(),
+            year.curves.len(),
+            a.as_mut_ptr(),
+            a.len(),
+            b.as_mut_ptr(),
+            b.len(),
+            before.as_mut_ptr(),
+            before.len(),
+            whole.as_mut_ptr(),
+            whole.len(),
+        )
+    };
+    let unchanged = spans.iter().flatten().all(|&hour| hour == narrow)
+        && weights.iter().flatten().all(|&weight| weight == wide);
+    let ([a, b], [before, whole]) = (spans, weights);
+    told(answer, (a, b, before, whole), unchanged)
 }
 
 /// The loss, the differences and the amounts of an hour.

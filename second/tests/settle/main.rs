@@ -5,3 +5,4 @@
 mod cases;
 mod compiled;
 mod random_inputs;
+mod yearly;

@@ -2,12 +2,12 @@
 //! sets values at, one below and one above a limit, lengths that differ, and the extremes of the machine types. Which
 //! refusal each fault led to is counted, and every one that is named must have been reached.
 
-use std::collections::BTreeMap;
+use std::collections::{BTreeMap, BTreeSet};
 
 use second::random::Random;
 use second::refusal::Refusal;
 
-use crate::compiled::{self, Told};
+use crate::compiled::{self, Told, Year};
 
 const INPUTS: u64 = 100_000;
 
@@ -413,6 +413,170 @@ fn periodisation() {
         (4, &[0, 13]),
     ];
     reached.assert_all("periodisation", expected);
+}
+
+/// A year of 1 to 13 months of a few hours each, at times of many, with a reading that has weight.
+fn good_year(random: &mut Random) -> Year {
+    let months = 1 + random.below(13);
+    let hours: Vec<u16> = (0..months).map(|_| size(random, 745, 500) as u16).collect();
+    let mut year = Year {
+        e: random.any_size(WEIGHT),
+        a: random.below(hours[0].into()) as u16,
+        b: 1 + random.below(hours[months - 1].into()) as u16,
+        parties: (0..months).map(|_| random.below(64) as u8).collect(),
+        hours,
+        curves: vec![],
+    };
+    if months == 1 && year.a >= year.b {
+        (year.a, year.b) = (year.b - 1, year.a + 1);
+    }
+    let highest = *random.pick(&[9, WEIGHT]);
+    fit_curves(&mut year, |_| random.any_size(highest) as u32);
+    let first = usize::from(year.a);
+    year.curves[first] = year.curves[first].max(1);
+    year
+}
+
+/// As many curve numbers as the hours ask for.
+fn fit_curves(year: &mut Year, number: impl FnMut(usize) -> u32) {
+    let hours = year.hours.iter().map(|&hours| usize::from(hours)).sum();
+    year.curves = (0..hours).map(number).collect();
+}
+
+/// Other arguments of the planner. Fault 0 is of the lent lists alone.
+fn damage_year(random: &mut Random, year: &mut Year, fault: usize) {
+    let months = year.hours.len().min(year.parties.len());
+    if months == 0 || year.curves.is_empty() {
+        return;
+    }
+    let month = random.below(months);
+    let (first, last) = (year.hours[0], year.hours[year.hours.len() - 1]);
+    match fault {
+        0 => {}
+        1 => match random.below(2) {
+            0 => year.parties.truncate(month),
+            _ => year.parties.resize(months + 1 + random.below(3), 0),
+        },
+        2 => {
+            let months = *random.pick(&[0, 1, 12, 13, 14]);
+            year.parties.resize(months, 0);
+            year.hours = vec![2; months];
+            (year.a, year.b) = (0, 1);
+            fit_curves(year, |_| 1);
+        }
+        3 => {
+            year.hours[month] = *random.pick(&[0, 744, 745, 746, 1_490, 65_535]);
+            fit_curves(year, |_| 1);
+        }
+        4 => match random.below(3) {
+            0 => year.curves.push(1),
+            1 => year.curves.truncate(year.curves.len() - 1),
+            _ => year.hours[month] = year.hours[month].wrapping_add(1),
+        },
+        5 => year.parties[month] = *random.pick(&[63, 64, 65, 128, 255]),
+        6 => year.a = *random.pick(&[first - first.min(1), first, first + 1, u16::MAX]),
+        7 => year.b = *random.pick(&[0, 1, last, last + 1, u16::MAX]),
+        // One month, with a below, at or above b.
+        8 => {
+            year.parties.truncate(1);
+            year.hours = vec![9];
+            fit_curves(year, |_| 1);
+            year.b = 1 + random.below(9) as u16;
+            year.a = near(random, year.b.into()).max(0) as u16;
+        }
+        // About 8,784 hours, of 8,940; rarely, since it takes long.
+        9 if random.once_in(10) => {
+            year.parties.resize(12, 0);
+            year.hours = vec![745; 12];
+            fit_curves(year, |hour| hour as u32 % 7);
+            year.a = random.below(9) as u16;
+            year.b = near(random, 589 + i64::from(year.a)) as u16;
+        }
+        10 => {
+            let extreme = *random.pick(&[(1 << 32) + 7, u64::MAX]);
+            year.e = near_or(random, WEIGHT as i64, extreme);
+        }
+        11 => {
+            let hour = random.below(year.curves.len());
+            year.curves[hour] = near_or(random, WEIGHT as i64, u32::MAX.into()) as u32;
+        }
+        // No weight, or none but outside the reading.
+        12 => {
+            year.curves.fill(0);
+            year.e = *random.pick(&[0, 1, WEIGHT]);
+        }
+        13 => {
+            year.curves.fill(0);
+            if year.a > 0 {
+                year.curves[0] = 5;
+            }
+            if year.b < last {
+                let hour = year.curves.len() - 1;
+                year.curves[hour] = 5;
+            }
+            year.e = *random.pick(&[0, 1, WEIGHT]);
+        }
+        _ => {}
+    }
+}
+
+#[test]
+fn plan() {
+    let mut reached = Reached::default();
+    let mut lengths = BTreeSet::new();
+    for number in 0..INPUTS {
+        let mut random = Random::of_file(47, number);
+        let mut year = good_year(&mut random);
+        let faults = faults(&mut random, 14);
+        for &fault in &faults {
+            damage_year(&mut random, &mut year, fault);
+        }
+        let mut lent = [year.hours.len(); 4];
+        if faults.contains(&0) {
+            let list = random.below(4);
+            lent[list] = other_length(&mut random, lent[list]);
+        }
+        let planned = second::plan::plan_lent(
+            year.e,
+            year.a,
+            year.b,
+            &year.parties,
+            &year.hours,
+            &year.curves,
+            lent,
+        );
+        let expected = of_second(planned).map(|planned| {
+            let weights = planned.iter().map(|reading| reading.weights.unwrap());
+            let (before, whole) = weights.map(|w| (w.before, w.whole)).unzip();
+            let (a, b) = planned.iter().map(|r| (r.a, r.b)).unzip();
+            (a, b, before, whole)
+        });
+        let told = compiled::plan(&year, lent);
+        assert!(
+            told == expected,
+            "input {number}: {told:?}, not {expected:?}"
+        );
+        reached.count(&faults, &told);
+        lengths.insert(year.hours.len());
+    }
+    assert!(lengths.iter().copied().eq(0..=14), "{lengths:?}");
+    let expected: &[(usize, &[u8])] = &[
+        (0, &[16]),
+        (1, &[4]),
+        (2, &[0, 4]),
+        (3, &[0, 4]),
+        (4, &[4]),
+        (5, &[0, 4]),
+        (6, &[0, 11]),
+        (7, &[0, 11]),
+        (8, &[0, 11]),
+        (9, &[0, 11]),
+        (10, &[0, 12]),
+        (11, &[0, 10]),
+        (12, &[0, 13]),
+        (13, &[0, 13]),
+    ];
+    reached.assert_all("plan", expected);
 }
 
 struct Hour {
