@@ -72,7 +72,8 @@ fn kind(r: Record) {
         Record::Reading(x) => {
             io::write_all(OUT, b"reading ");
             io::print_decimal(OUT, x.e_wh as u64);
-            weights(x.over);
+            let over = x.over;
+            weights(over);
         }
         Record::Price(_, price_ore) => {
             io::write_all(OUT, b"price ");

@@ -21,7 +21,7 @@ use Rattle.rules.specs.Month.{wholeOf, readingFigure, figureFor, weights
 use Rattle.rules.specs.Month.{periodised, allPeriodised, loss, difference, amount, monthDistributed, monthPeriodised, monthLoss, monthDifference, monthAmount, invoice, isEstimated}
 use Rattle.rules.specs.Month.{estimatedHours, refixedVerdict, hourVerdict, curveVerdict, readingVerdict, periodisedVerdict, monthChecks, monthVerdict}
 use Rattle.rules.specs.Plan.{monthCount, monthStart, curveOfMonth, partFrom, partTo, partHours, partWeight, plannedBefore, plannedWhole, plannedReading, planned}
-use Rattle.rules.specs.Plan.{readingHours, hoursVerdict, partyVerdict, partVerdict, weightVerdict, planChecks}
+use Rattle.rules.specs.Plan.{readingHours, hoursVerdict, partyVerdict, partVerdict, weightVerdict, listChecks, spanChecks, handedChecks, planChecks}
 use Rattle.rules.specs.Statement.{digitsIn, decimal, signedDecimal, digitsOfWidth, newline, refusalLine, provisionalEnding, headingText}
 use Rattle.rules.specs.Statement.{headingLine, columnsLine, partyLine, totalLine, statementLines}
 use Rattle.rules.specs.Statement.{judgedStatement, answeredStatement, statement}
@@ -118,7 +118,7 @@ unfolding monthCount monthStart curveOfMonth partFrom partTo partHours partWeigh
 plans-1 = tt
 
 unfoldable pub plans-2 : Unit {0}
-unfolding hoursVerdict partyVerdict partVerdict weightVerdict planChecks followsWhole
+unfolding hoursVerdict partyVerdict partVerdict weightVerdict listChecks spanChecks handedChecks planChecks followsWhole
 plans-2 = tt
 
 unfoldable pub plans : Unit {0}

@@ -2,10 +2,10 @@
 use mathlib.Core.Bool.{Bool, true, false, cond}
 use mathlib.Core.List.{List, [], _∷_}
 use mathlib.Core.Path.{_≡_, refl, sym, _∙_, ap, subst}
-use Prim.Native.Nat.{ℕ, _+_, _≤_, _<_}
+use Prim.Native.Nat.{ℕ, _≤_}
 use native.Mathlib.Omega.{arith}
 use borrow.Author.Tests.{eqb-true, leb-true, leb-false}
-use lib.Dec.{eqb, leb}
+use lib.Dec.{eqb}
 use Rattle.rules.specs.Record.{headingKind, partyKind, fixedHourKind, readingKind, priceKind, refixedHourKind, endKind, longReadingKind}
 use Rattle.rules.specs.Record.{Over, thisMonth, manyMonths, readingKindOf, readingFrom}
 use Rattle.rules.specs.Record.{Record, heading, party, fixedHour, reading, price, refixedHour, end, layouts, widthsIn, fieldWidths, totalOf, bodyLength, known, kindOf, recordFrom}

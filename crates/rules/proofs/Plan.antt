@@ -1,48 +1,49 @@
 -- A READING PLANNED OVER MONTHS (02, W3): in the joined curves its hours follow one another from month to month, so that what its parts weigh is what the joined
 -- curve of its hours weighs, and each month's figures are those of one long periodisation (`plan-kept`, what specs/Plan says of a plan).
-use mathlib.Core.Bool.{true, false, cond, _&&_, _||_}
-use mathlib.Core.List.{List}
-use mathlib.Core.Logic.{_⊎_, inl, inr, ⊎-elim}
+use mathlib.Core.Bool.{true, cond, _&&_}
 use mathlib.Core.Path.{_≡_, refl, sym, _∙_, ap, ap₂}
 use Prim.Native.Nat.{ℕ, zero, suc, _+_, _-_, _*_, _≤_, _<_}
-use native.Mathlib.Nat.{add-assoc, add-zero, zero-add}
+use native.Mathlib.Nat.{zero-add}
 use native.Mathlib.Omega.{arith}
-use borrow.Author.Tests.{ltb-true, leb-true, eqb-true, lt-ltb, le-leb, le-ltb, eq-eqb, ne-eqb}
+use borrow.Author.Tests.{ltb-true, leb-true, eqb-true, lt-ltb, le-leb, eq-eqb, ne-eqb}
 use lib.Dec.{eqb, leb, ltb}
 use lib.ListN.{length}
 use Rattle.rules.specs.Accepted.{NoneRefuses}
 use Rattle.rules.specs.Limits.{mostMonths, mostHours, mostParties, mostWeights, greatestEnergy, greatestCurveNumber, greatestWhole}
 use Rattle.rules.specs.Month.{curve, weightOf, S, weightBefore, wholeWeight, wholeOf, energyOf, weightsFit, followsWhole, readingChecks, readingFigure}
 use Rattle.rules.specs.MonthFile.{MonthFile, H, P}
-use Rattle.rules.specs.Periodised.{sumSoFar, periodisedFigure, partOfE}
+use Rattle.rules.specs.Periodised.{periodisedFigure, partOfE}
 use Rattle.rules.specs.Plan.{LongReading, monthCount, monthStart, curveOfMonth, partFrom, partTo, partHours, partWeight, plannedBefore, plannedWhole, plannedReading}
-use Rattle.rules.specs.Plan.{readingHours, hoursBefore, joinedCurve, hoursVerdict, partyVerdict, partVerdict, weightVerdict, planChecks, InMonth, PlanKept}
+use Rattle.rules.specs.Plan.{readingHours, hoursBefore, joinedCurve, hoursVerdict, partyVerdict, partVerdict, weightVerdict, listChecks, spanChecks, handedChecks, planChecks}
+use Rattle.rules.specs.Plan.{InMonth, PlanKept}
 use Rattle.rules.specs.Record.{thisMonth, Reading, reading, inFile, checks}
-use Rattle.rules.specs.Refusals.{accepted, unless, first, inTurn}
+use Rattle.rules.specs.Refusals.{outOfRange, accepted, unless, first}
 use Rattle.rules.specs.Services.{checkAt, eachAt, periodisationChecks, periodisationFigures}
-use Rattle.rules.specs.Words.{sum, figures, at, within, atMost}
+use Rattle.rules.specs.Words.{sum, at, within, atMost}
 use Rattle.rules.proofs.Loops.{figures-length, figures-at}
 use Rattle.rules.proofs.Periodised.{figure-cong, part-is-all, no-part, parts-add-up, part-of-whole}
 use Rattle.rules.proofs.Readings.{follows-is, reading-adds-up}
-use Rattle.rules.proofs.Refusals.{accepted-exactly, in-turn-exactly, unless-exactly}
+use Rattle.rules.proofs.Refusals.{accepted-exactly, in-turn-exactly, unless-exactly, both-accept, first-append, then-accepted}
 use Rattle.rules.proofs.Sums.{sum-cong, sum-rises, sum-split, sum-at-most, sum-member}
-use Rattle.rules.proofs.Whole.{both-pass, one-passes, within-is}
+use Rattle.rules.proofs.Whole.{both-pass, within-is}
 
--- WHAT THE PLANNER'S CHECKS SAY
-pub record Plannable (r : LongReading) : Type 0 where
-  pub as-many-parties : length (r .parties) ≡ monthCount r
+-- WHAT THE PLANNER'S CHECKS SAY of the hours, the curves and the reading's parts
+pub record Weighed (r : LongReading) : Type 0 where
   pub some-months : 1 ≤ monthCount r
   pub few-months : monthCount r ≤ mostMonths
-  pub some-hours : (k : ℕ) → k < monthCount r → 1 ≤ at (r .hours) k
   pub few-hours : (k : ℕ) → k < monthCount r → at (r .hours) k ≤ mostHours
   pub all-curves : length (r .curves) ≡ monthStart r (monthCount r)
-  pub party : (k : ℕ) → k < monthCount r → at (r .parties) k < mostParties
   pub some-part : (k : ℕ) → k < monthCount r → partFrom r k < partTo r k
   pub part-inside : (k : ℕ) → k < monthCount r → partTo r k ≤ at (r .hours) k
   pub not-too-long : readingHours r ≤ mostWeights
-  pub energy : r .e ≤ greatestEnergy
   pub curve-fits : (t : ℕ) → t < length (r .curves) → at (r .curves) t ≤ greatestCurveNumber
-  pub follows : followsWhole (r .e) (plannedWhole r) ≡ true
+
+-- and of the parties and E
+pub record Plannable (r : LongReading) : Type 0 where
+  pub weighed : Weighed r
+  pub as-many-parties : length (r .parties) ≡ monthCount r
+  pub party : (k : ℕ) → k < monthCount r → at (r .parties) k < mostParties
+  pub energy : r .e ≤ greatestEnergy
 
 module _ (r : LongReading) where
   said-hours : (k : ℕ) → hoursVerdict r k ≡ accepted → (1 ≤ at (r .hours) k) × (at (r .hours) k ≤ mostHours)
@@ -63,34 +64,40 @@ module _ (r : LongReading) where
   unfolding weightVerdict
   said-weight t v = leb-true (at (r .curves) t) greatestCurveNumber (unless-exactly _ _ _ .0 v)
 
-pub plannable : (r : LongReading) → first (planChecks r) ≡ accepted → Plannable r
-unfolding planChecks
-plannable r ok =
-    let none = accepted-exactly (planChecks r) .0 ok in
-    let lists = both-pass (eqb (length (r .parties)) (monthCount r)) (within 1 mostMonths (monthCount r)) (unless-exactly _ _ _ .0 (none .0)) in
+-- the shape of the lists, of which the first check tells
+pub shape-says : (r : LongReading) → unless (eqb (length (r .parties)) (monthCount r) && within 1 mostMonths (monthCount r)) outOfRange 0 ≡ accepted
+    → (length (r .parties) ≡ monthCount r) × (1 ≤ monthCount r) × (monthCount r ≤ mostMonths)
+shape-says r v =
+    let lists = both-pass (eqb (length (r .parties)) (monthCount r)) (within 1 mostMonths (monthCount r)) (unless-exactly _ _ _ .0 v) in
     let count = within-is 1 mostMonths (monthCount r) (lists .1) in
+    (eqb-true _ _ (lists .0), count .0, count .1)
+
+pub plannable : (r : LongReading) → NoneRefuses (handedChecks r) → Plannable r
+unfolding handedChecks listChecks spanChecks
+plannable r none =
+    let shape = shape-says r (none .0) in
     let of-hours = in-turn-exactly (monthCount r) (hoursVerdict r) .0 (none .1 .0) in
     let of-parties = in-turn-exactly (monthCount r) (partyVerdict r) .0 (none .1 .1 .1 .0) in
     let of-parts = in-turn-exactly (monthCount r) (partVerdict r) .0 (none .1 .1 .1 .1 .0) in
     let of-weights = in-turn-exactly (length (r .curves)) (weightVerdict r) .0 (none .1 .1 .1 .1 .1 .1 .1 .0) in
     record {
-      as-many-parties = eqb-true _ _ (lists .0);
-      some-months = count .0;
-      few-months = count .1;
-      some-hours = λ k b. said-hours r k (of-hours k b) .0;
-      few-hours = λ k b. said-hours r k (of-hours k b) .1;
-      all-curves = eqb-true _ _ (unless-exactly _ _ _ .0 (none .1 .1 .0));
+      weighed = record {
+        some-months = shape .1;
+        few-months = shape .2;
+        few-hours = λ k b. said-hours r k (of-hours k b) .1;
+        all-curves = eqb-true _ _ (unless-exactly _ _ _ .0 (none .1 .1 .0));
+        some-part = λ k b. said-part r k (of-parts k b) .0;
+        part-inside = λ k b. said-part r k (of-parts k b) .1;
+        not-too-long = leb-true _ _ (unless-exactly _ _ _ .0 (none .1 .1 .1 .1 .1 .0));
+        curve-fits = λ t b. said-weight r t (of-weights t b);
+      };
+      as-many-parties = shape .0;
       party = λ k b. said-party r k (of-parties k b);
-      some-part = λ k b. said-part r k (of-parts k b) .0;
-      part-inside = λ k b. said-part r k (of-parts k b) .1;
-      not-too-long = leb-true _ _ (unless-exactly _ _ _ .0 (none .1 .1 .1 .1 .1 .0));
       energy = leb-true _ _ (unless-exactly _ _ _ .0 (none .1 .1 .1 .1 .1 .1 .0));
-      curve-fits = λ t b. said-weight r t (of-weights t b);
-      follows = unless-exactly _ _ _ .0 (none .1 .1 .1 .1 .1 .1 .1 .1 .0);
     }
 
 -- IN THE JOINED CURVES A READING'S HOURS FOLLOW ONE ANOTHER
-module _ (r : LongReading) (p : Plannable r) where
+module _ (r : LongReading) (w : Weighed r) where
   abbrev joined : ℕ → ℕ
   joined t = at (r .curves) (r .a + t)
 
@@ -109,7 +116,7 @@ module _ (r : LongReading) (p : Plannable r) where
   part-follows (suc k) b =
       let none : cond (eqb (suc k) 0) (r .a) 0 ≡ 0 = rw (ne-eqb (suc k) 0 (λ e. omega arith)) in
       let ends : partTo r k ≡ at (r .hours) k = not-last k b in
-      omega (arith, part-follows k (omega arith), none, hours-are k, p .some-part k (omega arith))
+      omega (arith, part-follows k (omega arith), none, hours-are k, w .some-part k (omega arith))
 
   -- an hour of a part is the joined curve's hour behind all that came before
   pub hour-follows : (k h : ℕ) → k < monthCount r → curveOfMonth r k (partFrom r k + h) ≡ joined (hoursBefore r k + h)
@@ -133,17 +140,17 @@ module _ (r : LongReading) (p : Plannable r) where
   unfolding readingHours hoursBefore monthStart sum
   within-curves =
       let last : ℕ = monthCount r - 1 in
-      let all : monthCount r ≡ suc last = omega (arith, p .some-months) in
-      let b : last < monthCount r = omega (arith, p .some-months) in
+      let all : monthCount r ≡ suc last = omega (arith, w .some-months) in
+      let b : last < monthCount r = omega (arith, w .some-months) in
       let ends : readingHours r ≡ hoursBefore r last + partHours r last = ap (λ (n : ℕ). sum n (partHours r)) all in
       let starts : monthStart r (monthCount r) ≡ monthStart r last + at (r .hours) last = ap (λ (n : ℕ). sum n (at (r .hours))) all in
-      omega (arith, part-follows last b, hours-are last, p .some-part last b, p .part-inside last b, p .all-curves)
+      omega (arith, part-follows last b, hours-are last, w .some-part last b, w .part-inside last b, w .all-curves)
 
   pub weight-fits : (t : ℕ) → t < readingHours r → joined t ≤ greatestCurveNumber
-  weight-fits t b = p .curve-fits (r .a + t) (omega (arith, within-curves))
+  weight-fits t b = w .curve-fits (r .a + t) (omega (arith, within-curves))
 
   pub whole-fits : plannedWhole r ≤ greatestWhole
-  whole-fits = omega (arith, whole-is, sum-at-most (readingHours r) joined greatestCurveNumber weight-fits, p .not-too-long)
+  whole-fits = omega (arith, whole-is, sum-at-most (readingHours r) joined greatestCurveNumber weight-fits, w .not-too-long)
 
   -- the part of a month ends within the whole reading
   part-ends : (k : ℕ) → k < monthCount r → hoursBefore r k + partHours r k ≤ readingHours r
@@ -168,7 +175,12 @@ module _ (r : LongReading) (p : Plannable r) where
 
   some-reading-hours : 1 ≤ readingHours r
   unfolding readingHours
-  some-reading-hours = omega (arith, p .some-months, p .some-part 0 (p .some-months), hours-are 0, sum-member (monthCount r) (partHours r) {i = 0} (p .some-months))
+  some-reading-hours = omega (arith, w .some-months, w .some-part 0 (w .some-months), hours-are 0, sum-member (monthCount r) (partHours r) {i = 0} (w .some-months))
+
+-- OF A READING THAT IS PLANNED
+module _ (r : LongReading) (p : Plannable r) (followed : followsWhole (r .e) (plannedWhole r) ≡ true) where
+  abbrev w : Weighed r
+  w = p .weighed
 
   long-taken : first (periodisationChecks (r .e) (joinedCurve r) (length (joinedCurve r))) ≡ accepted
   unfolding periodisationChecks eachAt checkAt within atMost followsWhole
@@ -176,32 +188,32 @@ module _ (r : LongReading) (p : Plannable r) where
       accepted-exactly (periodisationChecks (r .e) (joinedCurve r) (length (joinedCurve r))) .1 (
         unless-exactly _ _ _ .1 (eq-eqb (length (joinedCurve r)) (length (joinedCurve r)) refl),
         (
-          unless-exactly _ _ _ .1 (rw (curve-length, le-leb 1 (readingHours r) some-reading-hours, le-leb (readingHours r) mostWeights (p .not-too-long))),
+          unless-exactly _ _ _ .1 (rw ((curve-length r w), le-leb 1 (readingHours r) (some-reading-hours r w), le-leb (readingHours r) mostWeights (w .not-too-long))),
           (
             unless-exactly _ _ _ .1 (le-leb (r .e) greatestEnergy (p .energy)),
             (
-              in-turn-exactly (length (joinedCurve r)) _ .1 (λ t b. unless-exactly _ _ _ .1 (le-leb _ _ (each-fits t (omega (arith, curve-length))))),
-              (unless-exactly _ _ _ .1 (rw curve-weighs (p .follows)), tt),
+              in-turn-exactly (length (joinedCurve r)) _ .1 (λ t b. unless-exactly _ _ _ .1 (le-leb _ _ (each-fits t (omega (arith, (curve-length r w)))))),
+              (unless-exactly _ _ _ .1 (rw (curve-weighs r w) followed), tt),
             ),
           ),
         ),
       )
     where
       each-fits : (t : ℕ) → t < readingHours r → at (joinedCurve r) t ≤ greatestCurveNumber
-      each-fits t b = rw (curve-at t b) (weight-fits t b)
+      each-fits t b = rw (curve-at r w t b) (weight-fits r w t b)
 
-  long-figure : (t : ℕ) → t < readingHours r → at (periodisationFigures (r .e) (joinedCurve r)) t ≡ periodisedFigure (r .e) 0 (plannedWhole r) joined t
+  long-figure : (t : ℕ) → t < readingHours r → at (periodisationFigures (r .e) (joinedCurve r)) t ≡ periodisedFigure (r .e) 0 (plannedWhole r) (joined r w) t
   unfolding periodisationFigures at
   long-figure t b =
-      figures-at (length (joinedCurve r)) _ t 0 (omega (arith, curve-length))
-      ∙ ap (λ (whole : ℕ). periodisedFigure (r .e) 0 whole (at (joinedCurve r)) t) curve-weighs
-      ∙ figure-cong (r .e) 0 (plannedWhole r) t (λ i c. curve-at i (omega arith))
+      figures-at (length (joinedCurve r)) _ t 0 (omega (arith, (curve-length r w)))
+      ∙ ap (λ (whole : ℕ). periodisedFigure (r .e) 0 whole (at (joinedCurve r)) t) (curve-weighs r w)
+      ∙ figure-cong (r .e) 0 (plannedWhole r) t (λ i c. curve-at r w i (omega arith))
 
   -- A MONTH FILE that a record stands in
   module _ (k : ℕ) (m : MonthFile) (b : k < monthCount r) (here : InMonth r k m) where
     own-weight : (h : ℕ) → h < partHours r k → weightOf m (plannedReading r k) h ≡ curveOfMonth r k (partFrom r k + h)
     unfolding weightOf plannedReading
-    own-weight h c = here .same-curve (partFrom r k + h) (omega (arith, hours-are k, p .part-inside k b, here .hours))
+    own-weight h c = here .same-curve (partFrom r k + h) (omega (arith, hours-are r w k, w .part-inside k b, here .hours))
 
     own-is : S m (plannedReading r k) ≡ partWeight r k
     unfolding S plannedReading partWeight partHours
@@ -211,35 +223,35 @@ module _ (r : LongReading) (p : Plannable r) where
     unfolding readingFigure plannedReading weightBefore wholeOf wholeWeight
     month-hour h c =
         let back : partFrom r k + h - partFrom r k ≡ h = omega arith in
-        let before : plannedBefore r k ≡ 0 + sum (hoursBefore r k) joined = before-is k (omega arith) ∙ sym (zero-add _) in
-        rw (le-leb (partFrom r k) (partFrom r k + h) (omega arith), lt-ltb (partFrom r k + h) (partTo r k) (omega (arith, hours-are k)), back)
-        (figure-cong (r .e) (plannedBefore r k) (plannedWhole r) h (λ i d. own-weight i (omega arith) ∙ hour-follows k i b)
-        ∙ ap (λ (x : ℕ). periodisedFigure (r .e) x (plannedWhole r) (λ i. joined (hoursBefore r k + i)) h) before
-        ∙ part-of-whole (r .e) 0 (plannedWhole r) joined (hoursBefore r k) h
-        ∙ sym (long-figure (hoursBefore r k + h) (omega (arith, part-ends k b))))
+        let before : plannedBefore r k ≡ 0 + sum (hoursBefore r k) (joined r w) = before-is r w k (omega arith) ∙ sym (zero-add _) in
+        rw (le-leb (partFrom r k) (partFrom r k + h) (omega arith), lt-ltb (partFrom r k + h) (partTo r k) (omega (arith, hours-are r w k)), back)
+        (figure-cong (r .e) (plannedBefore r k) (plannedWhole r) h (λ i d. own-weight i (omega arith) ∙ hour-follows r w k i b)
+        ∙ ap (λ (x : ℕ). periodisedFigure (r .e) x (plannedWhole r) (λ i. (joined r w) (hoursBefore r k + i)) h) before
+        ∙ part-of-whole (r .e) 0 (plannedWhole r) (joined r w) (hoursBefore r k) h
+        ∙ sym (long-figure (hoursBefore r k + h) (omega (arith, part-ends r w k b))))
 
     month-part : sum (H m) (readingFigure m (plannedReading r k)) ≡ partOfE (r .e) (plannedBefore r k) (partWeight r k) (plannedWhole r)
     unfolding plannedReading energyOf wholeOf wholeWeight
     month-part =
-        reading-adds-up m (plannedReading r k) (p .some-part k b) (omega (arith, p .part-inside k b, here .hours)) (follows-is (r .e) (plannedWhole r) (p .follows))
+        reading-adds-up m (plannedReading r k) (w .some-part k b) (omega (arith, w .part-inside k b, here .hours)) (follows-is (r .e) (plannedWhole r) followed)
         ∙ ap (λ (own : ℕ). partOfE (r .e) (plannedBefore r k) own (plannedWhole r)) own-is
 
     month-passes : (n place : ℕ) → NoneRefuses (checks (inFile m n) (reading (plannedReading r k))) × NoneRefuses (readingChecks m (plannedReading r k) place)
     unfolding checks readingChecks plannedReading weightsFit wholeOf wholeWeight weightBefore
     month-passes n place =
-        let inside : leb (partTo r k) (H m) ≡ true = le-leb (partTo r k) (H m) (omega (arith, p .part-inside k b, here .hours)) in
+        let inside : leb (partTo r k) (H m) ≡ true = le-leb (partTo r k) (H m) (omega (arith, w .part-inside k b, here .hours)) in
         let fits : leb (plannedBefore r k + S m (plannedReading r k)) (plannedWhole r) ≡ true =
-        le-leb (plannedBefore r k + S m (plannedReading r k)) (plannedWhole r) (omega (arith, own-is, part-weighs k b)) in (
+        le-leb (plannedBefore r k + S m (plannedReading r k)) (plannedWhole r) (omega (arith, own-is, part-weighs r w k b)) in (
           (
             unless-exactly _ _ _ .1 (lt-ltb (at (r .parties) k) (P m) (here .a-party)),
             (
-              unless-exactly _ _ _ .1 (rw (lt-ltb (partFrom r k) (partTo r k) (p .some-part k b), inside)),
+              unless-exactly _ _ _ .1 (rw (lt-ltb (partFrom r k) (partTo r k) (w .some-part k b), inside)),
               (unless-exactly _ _ _ .1 (le-leb (r .e) greatestEnergy (p .energy)), tt),
             ),
           ),
           (
-            unless-exactly _ _ _ .1 (rw (fits, le-leb (plannedWhole r) greatestWhole whole-fits)),
-            (unless-exactly _ _ _ .1 (p .follows), tt),
+            unless-exactly _ _ _ .1 (rw (fits, le-leb (plannedWhole r) greatestWhole (whole-fits r w))),
+            (unless-exactly _ _ _ .1 followed, tt),
           ),
         )
 
@@ -256,13 +268,16 @@ module _ (r : LongReading) (p : Plannable r) where
   all-months : (file : ℕ → MonthFile) → ((k : ℕ) → k < monthCount r → InMonth r k (file k))
       → sum (monthCount r) (λ k. sum (H (file k)) (readingFigure (file k) (plannedReading r k))) ≡ r .e
   unfolding plannedBefore plannedWhole
-  all-months file here = months-so-far file here (monthCount r) (omega arith) ∙ part-is-all (r .e) (plannedWhole r) (follows-is (r .e) (plannedWhole r) (p .follows))
+  all-months file here = months-so-far file here (monthCount r) (omega arith) ∙ part-is-all (r .e) (plannedWhole r) (follows-is (r .e) (plannedWhole r) followed)
 
 -- WHAT W3 ASKS OF A PLAN, of every reading that the planner does not refuse
 pub plan-kept : (r : LongReading) → first (planChecks r) ≡ accepted → PlanKept r
+unfolding planChecks first
 plan-kept r ok =
-    let p : Plannable r = plannable r ok in
-    record { adds-up = all-months r p; each-hour = λ k m b here. month-hour r p k m b here; taken = long-taken r p; passes = λ k m b here. month-passes r p k m b here }
+    let both = both-accept (first (handedChecks r)) _ (sym (first-append (handedChecks r) _) ∙ ok) in
+    let p : Plannable r = plannable r (accepted-exactly (handedChecks r) .0 (both .0)) in
+    let f : followsWhole (r .e) (plannedWhole r) ≡ true = unless-exactly _ _ _ .0 (sym (then-accepted _) ∙ both .1) in
+    record { adds-up = all-months r p f; each-hour = λ k m b here. month-hour r p f k m b here; taken = long-taken r p f; passes = λ k m b here. month-passes r p f k m b here }
 
 -- A READING IN THIS MONTH NEVER MEETS 18, once its curve has passed 10
 pub this-month-fits : (m : MonthFile) (r : Reading) → r .b ≤ H m → H m ≤ mostHours → ((t : ℕ) → t < H m → curve m t ≤ greatestCurveNumber)

@@ -20,7 +20,7 @@ use Rattle.rules.specs.Limits.{estimated, mostHours, mostParties, greate
 use Rattle.rules.specs.Record.{Heading, Over, thisMonth, manyMonths, Reading, Record, heading, party, fixedHour, reading, price, refixedHour, end, hourWidths, layouts}
 use Rattle.rules.specs.Record.{widthsIn, fieldWidths, readingKindOf, weightFields}
 use Rattle.rules.specs.Record.{totalOf, bodyLength, known, numberOnto, bytesOf, signed, unsigned, cutInto, field, numberAt, signedAt, headingFrom, flowsFrom}
-use Rattle.rules.specs.Record.{readingFrom, recordFrom, kindAt, recordAt, Field, number, signedNumber, digits, fieldBytes, inWidths, kindOf, hourFields}
+use Rattle.rules.specs.Record.{readingFrom, recordFrom, kindAt, recordAt, number, fieldBytes, inWidths, kindOf, hourFields}
 use Rattle.rules.specs.Record.{fieldsOf, recordBytes, alone, headingInRange, hourInRange, checks, readAlone}
 use Rattle.rules.specs.Refusals.{Verdict, accepted, refused, given, unless, andThen, first, answer}
 use Rattle.rules.specs.Words.{at, withinℤ, joined}

@@ -1,8 +1,8 @@
 -- THE PLANNER OF A READING OVER MONTHS (02, W3): "a planner makes them" (the 08 records) "from E, a of the first month, b of the last, the party's number in each
 -- and the months' curves". The curves come joined into one list, with the hours of each month beside it (READINGS A62). That the parts add up to E, that each
 -- hour has the figure of one long periodisation, and that the records pass in their month files is proved in proofs/Plan.
-use mathlib.Core.Bool.{cond, _&&_, _||_}
-use mathlib.Core.List.{List, [], _∷_}
+use mathlib.Core.Bool.{cond, _&&_}
+use mathlib.Core.List.{List, [], _∷_, _++_}
 use mathlib.Core.Path.{_≡_}
 use Prim.Native.Nat.{ℕ, suc, _+_, _-_, _<_}
 use lib.Dec.{eqb, leb, ltb}
@@ -90,18 +90,26 @@ partVerdict r k = unless (ltb (partFrom r k) (partTo r k) && leb (partTo r k) (a
 unfoldable pub weightVerdict : LongReading → ℕ → Verdict
 weightVerdict r t = unless (leb (at (r .curves) t) greatestCurveNumber) curveTooLarge 0
 
-unfoldable pub planChecks : LongReading → List Verdict
-planChecks r =
+-- 4, then 11, then 12 and 10: what is asked of all that is handed in
+unfoldable pub listChecks : LongReading → List Verdict
+listChecks r =
     unless (eqb (length (r .parties)) (monthCount r) && within 1 mostMonths (monthCount r)) outOfRange 0
     ∷ inTurn (monthCount r) (hoursVerdict r)
     ∷ unless (eqb (length (r .curves)) (monthStart r (monthCount r))) outOfRange 0
     ∷ inTurn (monthCount r) (partyVerdict r)
-    ∷ inTurn (monthCount r) (partVerdict r)
-    ∷ unless (leb (readingHours r) mostWeights) spanFault 0
-    ∷ unless (leb (r .e) greatestEnergy) energyTooLarge 0
-    ∷ inTurn (length (r .curves)) (weightVerdict r)
-    ∷ unless (followsWhole (r .e) (plannedWhole r)) nothingToFollow 0
     ∷ []
+
+unfoldable pub spanChecks : LongReading → List Verdict
+spanChecks r = inTurn (monthCount r) (partVerdict r) ∷ unless (leb (readingHours r) mostWeights) spanFault 0 ∷ []
+
+unfoldable pub handedChecks : LongReading → List Verdict
+handedChecks r =
+    listChecks r
+    ++ (spanChecks r ++ (unless (leb (r .e) greatestEnergy) energyTooLarge 0 ∷ inTurn (length (r .curves)) (weightVerdict r) ∷ []))
+
+-- and last 13
+unfoldable pub planChecks : LongReading → List Verdict
+planChecks r = handedChecks r ++ (unless (followsWhole (r .e) (plannedWhole r)) nothingToFollow 0 ∷ [])
 
 -- WHAT IS PROVED OF A PLAN (law `plan-kept`), of a reading that the planner does not refuse
 
