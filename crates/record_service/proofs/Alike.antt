@@ -381,6 +381,7 @@ module _ (l : List ℤ) (gln : List ℕ) where
     where
       long-stands : standIn long-fields l ≡ eqb (length l) 6 && signsFrom 6 0 l
       long-stands = stands 6 0 long-fields l (refl, (refl, (refl, (refl, (refl, (refl, tt))))))
+
       go : (t : Bool) → standIn long-fields l ≡ t → t && (test-8 l 4 && test-8 l 5) ≡ t && (ltb (nthNoSign l 4) (256 ^ 8) && ltb (nthNoSign l 5) (256 ^ 8))
       go true e =
           let both = both-true (eqb (length l) 6) (signsFrom 6 0 l) (sym long-stands ∙ e) in

@@ -54,7 +54,7 @@ module _ (r : LongReading) where
   unfolding partyVerdict
   said-party k v = ltb-true (at (r .parties) k) mostParties (unless-exactly _ _ _ .0 v)
 
-  said-part : (k : ℕ) → partVerdict r k ≡ accepted → (partFrom r k < partTo r k) × (partTo r k ≤ at (r .hours) k)
+  pub said-part : (k : ℕ) → partVerdict r k ≡ accepted → (partFrom r k < partTo r k) × (partTo r k ≤ at (r .hours) k)
   unfolding partVerdict
   said-part k v =
       let both = both-pass (ltb (partFrom r k) (partTo r k)) (leb (partTo r k) (at (r .hours) k)) (unless-exactly _ _ _ .0 v) in
@@ -157,7 +157,7 @@ module _ (r : LongReading) (w : Weighed r) where
   unfolding hoursBefore readingHours sum
   part-ends k b = sum-rises (partHours r) {k = suc k} {n = monthCount r} (omega arith)
 
-  part-weighs : (k : ℕ) → k < monthCount r → plannedBefore r k + partWeight r k ≤ plannedWhole r
+  pub part-weighs : (k : ℕ) → k < monthCount r → plannedBefore r k + partWeight r k ≤ plannedWhole r
   unfolding plannedBefore plannedWhole sum
   part-weighs k b = sum-rises (partWeight r) {k = suc k} {n = monthCount r} (omega arith)
 

@@ -110,8 +110,7 @@ loop-less c = search needs
 loop-again : tie.Need-loop-again Inv-loop μ-loop
 loop-again c =
     let j = c .before .before .before in
-    let r = reading-of j in
-    (
+    let r = reading-of j in (
       look-pass (loop-of j .loop .inv .0) (in-file (read r)) (sym (judged j) ∙ ap said (c .before .enum-told .given .1)),
       next-place _ _ _ _ (here (r .before)) (r .reading .ensures) (c .reading-size .ensures) ∙ one-further _ _ _,
     )

@@ -70,8 +70,7 @@ loop-less c = search needs
 loop-again : tie.Need-loop-again Inv-loop μ-loop
 loop-again c =
     let read = turn (c .before) in
-    let l = read .before .before in
-    (
+    let l = read .before .before in (
       counted-next (asked l .pre) (l .loop .inv .0) (here (read .before)) (read .reading .ensures) (c .before .before .before .add-reading .ensures),
       next-place _ _ _ _ (here (read .before)) (read .reading .ensures) (c .reading-size .ensures) ∙ one-further _ _ _,
     )
