@@ -1,2 +1,3 @@
 pub mod Checking
 pub mod Making
+pub mod Given

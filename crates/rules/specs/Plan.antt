@@ -11,7 +11,7 @@ use Rattle.rules.specs.Accepted.{NoneRefuses}
 use Rattle.rules.specs.Limits.{mostMonths, mostHours, mostParties, mostWeights, greatestEnergy, greatestCurveNumber}
 use Rattle.rules.specs.Month.{curve, followsWhole, readingChecks, readingFigure}
 use Rattle.rules.specs.Record.{manyMonths, Reading, reading, MonthFile, H, P, inFile, checks}
-use Rattle.rules.specs.Refusals.{outOfRange, spanFault, energyTooLarge, curveTooLarge, nothingToFollow, Verdict, accepted, unless, first, inTurn}
+use Rattle.rules.specs.Refusals.{outOfRange, spanFault, energyTooLarge, curveTooLarge, nothingToFollow, wrongLength, Verdict, accepted, unless, first, inTurn}
 use Rattle.rules.specs.Services.{periodisationChecks, periodisationFigures}
 use Rattle.rules.specs.Words.{sum, figures, at, within}
 
@@ -110,6 +110,12 @@ handedChecks r =
 -- and last 13
 unfoldable pub planChecks : LongReading → List Verdict
 planChecks r = handedChecks r ++ (unless (followsWhole (r .e) (plannedWhole r)) nothingToFollow 0 ∷ [])
+
+-- Through C the records are lent, number by number: 16 first, "for another length than the number of months" (READINGS A62)
+unfoldable pub lentPlanChecks : LongReading → ℕ → ℕ → ℕ → ℕ → List Verdict
+lentPlanChecks r lentFrom lentTo lentBefore lentWhole =
+    unless (eqb lentFrom (monthCount r) && eqb lentTo (monthCount r) && eqb lentBefore (monthCount r) && eqb lentWhole (monthCount r)) wrongLength 0
+    ∷ planChecks r
 
 -- WHAT IS PROVED OF A PLAN (law `plan-kept`), of a reading that the planner does not refuse
 

@@ -5,9 +5,11 @@ use mathlib.Core.Path.{_≡_}
 use Prim.Native.Nat.{ℕ}
 use lib.IntN.{ℤ}
 use lib.ListN.{length}
+use Rattle.rules.specs.Plan.{LongReading, monthCount, partFrom, partTo, plannedBefore, plannedWhole, lentPlanChecks}
 use Rattle.rules.specs.Refusals.{Verdict, first, afterwards}
 use Rattle.rules.specs.Services.{residualChecks, residualFigures, curveChecks, curveFigures, distributionChecks, distributionFigures}
 use Rattle.rules.specs.Services.{periodisationChecks, periodisationFigures, reconciliationChecks, reconciliationLoss, reconciliationDifferences, reconciliationAmounts, invoiceChecks, invoiceFigures}
+use Rattle.rules.specs.Words.{figures}
 use Rattle.settle_c.specs.Coded.{coded, kept}
 
 -- a verdict's number, and what one lent list then holds
@@ -59,3 +61,19 @@ pub record ReconciliationPromised
 -- `settle_invoice`
 abbrev pub InvoicePromised : List ℤ → List ℤ → ℕ → List ℤ → Type 0
 InvoicePromised amounts lent = Numbered (first (invoiceChecks amounts (length lent))) (invoiceFigures amounts) lent
+
+-- what the checks say of a reading to be planned, with the four lists that are lent
+abbrev pub planVerdict : LongReading → List ℕ → List ℕ → List ℕ → List ℕ → Verdict
+planVerdict r from to before whole = first (lentPlanChecks r (length from) (length to) (length before) (length whole))
+
+-- the weight of the whole reading, which every record has
+abbrev pub wholeOfEach : LongReading → ℕ → ℕ
+wholeOfEach r k = plannedWhole r
+
+-- `settle_plan`: of its answer and the four lent lists
+pub record PlanPromised (r : LongReading) (from to before whole : List ℕ) (n : ℕ) (from′ to′ before′ whole′ : List ℕ) : Type 0 where
+  pub answer : n ≡ coded (planVerdict r from to before whole)
+  pub holds-from : from′ ≡ afterwards (planVerdict r from to before whole) (figures (monthCount r) (partFrom r)) from
+  pub holds-to : to′ ≡ afterwards (planVerdict r from to before whole) (figures (monthCount r) (partTo r)) to
+  pub holds-before : before′ ≡ afterwards (planVerdict r from to before whole) (figures (monthCount r) (plannedBefore r)) before
+  pub holds-whole : whole′ ≡ afterwards (planVerdict r from to before whole) (figures (monthCount r) (wholeOfEach r)) whole

@@ -1,11 +1,24 @@
 // The services of settlement as functions that C calls (include/sayarimu.h). Each takes what its service takes, promises what it promises, and answers 0
 // for accepted, else number + 256 x place (01 "Refusal numbers": "A refusal returns its number and a place, and the call has written nothing.").
 use answer::Answer;
+use answer::Refusal;
+use plan::Planned;
 use reconcile_service::Reconciled;
+use record::Over;
+ghost use mathlib.Core.Bool.{_&&_};
 ghost use mathlib.Core.Path.{_≡_};
+ghost use Prim.Native.Nat.{_≤_};
+ghost use lib.Dec.{eqb};
+ghost use lib.ListN.{length};
 ghost use Rattle.answer.specs.Said.{said};
 ghost use Rattle.settle_c.specs.Coded.{numberAt, coded};
-ghost use Rattle.settle_c.specs.Promised.{ResidualPromised, CurvePromised, DistributionPromised, PeriodisationPromised, ReconciliationPromised, InvoicePromised};
+ghost use Rattle.plan.specs.Planning.{handed};
+ghost use Rattle.record.specs.Record.{overOf};
+ghost use Rattle.rules.specs.Limits.{mostMonths};
+ghost use Rattle.rules.specs.Month.{weightBefore, wholeWeight};
+ghost use Rattle.rules.specs.Words.{figures};
+ghost use Rattle.settle_c.specs.Planned.{fromIn, toIn, beforeIn, wholeIn};
+ghost use Rattle.settle_c.specs.Promised.{ResidualPromised, CurvePromised, DistributionPromised, PeriodisationPromised, ReconciliationPromised, InvoicePromised, PlanPromised};
 
 // Up to this place, 2 ^ 56 - 1, number + 256 x place is within 64 bits. Every service refuses far below it.
 const GREATEST_PLACE: usize = 72_057_594_037_927_935;
@@ -121,4 +134,120 @@ pub extern "C" fn settle_invoice(amounts_millionths: &[i64], out_ore: &mut [i64]
 {
     let answered = invoice_service::invoice(amounts_millionths, out_ore);
     code(answered)
+}
+
+// 16 of the planner: "for another length than the number of months"
+fn as_many(months: usize, from: usize, to: usize, before: usize, whole: usize) -> bool
+    ensures { λ r. ⌜ r ≡ eqb from months && eqb to months && eqb before months && eqb whole months ⌝ }
+{
+    (from == months) & (to == months) & (before == months) & (whole == months)
+}
+
+// The weight before a month, and of the whole reading, of a record of a plan.
+fn before_of(over: Over) -> u64
+    ensures { λ r. ⌜ r ≡ weightBefore (overOf over) ⌝ }
+{
+    match over {
+        Over::ThisMonth => 0,
+        Over::ManyMonths(before, _) => before,
+    }
+}
+
+fn whole_of(over: Over) -> u64
+    ensures { λ r. ⌜ r ≡ wholeWeight (overOf over) 0 ⌝ }
+{
+    match over {
+        Over::ThisMonth => 0,
+        Over::ManyMonths(_, whole) => whole,
+    }
+}
+
+// The records of a plan, number by number, into as many places as are lent.
+fn put_from(p: Planned, out: &mut [u16])
+    requires { ⌜ length (now out) ≤ mostMonths ⌝ }
+    ensures { λ _. ⌜ now (out .exit) ≡ figures (length (now (out .entry))) (fromIn (p .records)) ⌝ }
+{
+    let records = p.records;
+    let mut k = 0;
+    while k < out.len() {
+        let x = records[k];
+        out[k] = x.a;
+        k += 1;
+    }
+}
+
+fn put_to(p: Planned, out: &mut [u16])
+    requires { ⌜ length (now out) ≤ mostMonths ⌝ }
+    ensures { λ _. ⌜ now (out .exit) ≡ figures (length (now (out .entry))) (toIn (p .records)) ⌝ }
+{
+    let records = p.records;
+    let mut k = 0;
+    while k < out.len() {
+        let x = records[k];
+        out[k] = x.b;
+        k += 1;
+    }
+}
+
+fn put_before(p: Planned, out: &mut [u64])
+    requires { ⌜ length (now out) ≤ mostMonths ⌝ }
+    ensures { λ _. ⌜ now (out .exit) ≡ figures (length (now (out .entry))) (beforeIn (p .records)) ⌝ }
+{
+    let records = p.records;
+    let mut k = 0;
+    while k < out.len() {
+        let x = records[k];
+        let over = x.over;
+        out[k] = before_of(over);
+        k += 1;
+    }
+}
+
+fn put_whole(p: Planned, out: &mut [u64])
+    requires { ⌜ length (now out) ≤ mostMonths ⌝ }
+    ensures { λ _. ⌜ now (out .exit) ≡ figures (length (now (out .entry))) (wholeIn (p .records)) ⌝ }
+{
+    let records = p.records;
+    let mut k = 0;
+    while k < out.len() {
+        let x = records[k];
+        let over = x.over;
+        out[k] = whole_of(over);
+        k += 1;
+    }
+}
+
+// PLANNER: of the record of each month a, b, the weight before it and the weight of the whole reading; its party and E are those handed in.
+#[no_mangle]
+pub extern "C" fn settle_plan(
+    e_wh: u64,
+    a: u16,
+    b: u16,
+    parties: &[u8],
+    hours: &[u16],
+    curves: &[u32],
+    out_a: &mut [u16],
+    out_b: &mut [u16],
+    out_before: &mut [u64],
+    out_whole: &mut [u64],
+) -> u64
+    ensures { λ r. ⌜ PlanPromised (handed «e_wh» a b (now (parties .entry)) (now (hours .entry)) (now (curves .entry)))
+        (now («out_a» .entry)) (now («out_b» .entry)) (now («out_before» .entry)) (now («out_whole» .entry))
+        r (now («out_a» .exit)) (now («out_b» .exit)) (now («out_before» .exit)) (now («out_whole» .exit)) ⌝ }
+{
+    if !as_many(hours.len(), out_a.len(), out_b.len(), out_before.len(), out_whole.len()) {
+        let wrong = Answer::Refused(Refusal::WrongLength, 0);
+        return code(wrong);
+    }
+    let p = plan::plan(e_wh, a, b, parties, hours, curves);
+    let answered = p.answer;
+    if let Answer::Refused(x, place) = answered {
+        let refused = Answer::Refused(x, place);
+        return code(refused);
+    }
+    put_from(p, out_a);
+    put_to(p, out_b);
+    put_before(p, out_before);
+    put_whole(p, out_whole);
+    0
 }
