@@ -8,6 +8,7 @@ use Rattle.report_text.proofs.Unique.{report-unique}
 use Rattle.month_demands.proofs.Unique.{settle-unique}
 use Rattle.file_sections.proofs.Unique.{read-unique}
 use Rattle.month_run.proofs.MonthSums.{hours-unique}
+use Rattle.plan.proofs.Given.{plan-once}
 use Rattle.reconcile_service.proofs.Unique.{reconciliation-once}
 use Rattle.record.proofs.Unique.{fault-once, read-once}
 use Rattle.record_write.proofs.Unique.{write-once}
@@ -45,6 +46,7 @@ services =
           (e .0, λ i. record { differences = e .1 .0 i; amounts = e .1 .1 i });
       loss-of = λ party carrier loss. one-value _;
       invoice = λ amounts lent. one-answered _ _ lent;
+      plan = plan-once;
     }
 
 one-numbered : {A : Type 0} (verdict : Verdict) (figures lent : List A) → OneFitsWith (Numbered verdict figures lent)
@@ -70,6 +72,17 @@ services-for-C =
                 },
           );
       invoice = λ amounts lent. one-numbered _ _ lent;
+      plan =
+          λ reading lent n m held held′ p q. (
+            p .answer ∙ sym (q .answer),
+            λ i.
+                record {
+                  from = (p .holds-from ∙ sym (q .holds-from)) i;
+                  to = (p .holds-to ∙ sym (q .holds-to)) i;
+                  before = (p .holds-before ∙ sym (q .holds-before)) i;
+                  whole = (p .holds-whole ∙ sym (q .holds-whole)) i;
+                },
+          );
     }
 
 records : Records

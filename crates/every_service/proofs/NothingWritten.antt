@@ -72,6 +72,14 @@ nothing-written =
             loss = number-left _ _ _ (not-zero _ (p .answer) some) (p .holds-loss) i;
           };
       invoice-for-C = λ amounts lent. numbered _ _ lent;
+      plan-for-C =
+          λ reading lent n held some p i.
+          record {
+            from = left _ _ _ (not-zero _ (p .answer) some) (p .holds-from) i;
+            to = left _ _ _ (not-zero _ (p .answer) some) (p .holds-to) i;
+            before = left _ _ _ (not-zero _ (p .answer) some) (p .holds-before) i;
+            whole = left _ _ _ (not-zero _ (p .answer) some) (p .holds-whole) i;
+          };
       write = λ r gln lent. wrote-nothing _ lent _;
       write-plain = λ kind numbers gln lent. wrote-nothing _ lent _;
       month-settle =

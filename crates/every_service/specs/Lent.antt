@@ -9,6 +9,7 @@ use Rattle.reconcile_service.specs.declared.Reconciled.{Reconciled}
 use Rattle.report_text.specs.Reporting as Report
 use Rattle.report_text.specs.declared.Reported.{Reported}
 use Rattle.setting.specs.declared.Setting.{Setting}
+use Rattle.rules.specs.Plan.{LongReading}
 use Rattle.settle_c.specs.Promised as C
 
 -- the two lists of one hour's reconciliation
@@ -52,3 +53,14 @@ pub record ReportBuffers : Type 0 where
 abbrev pub ReportPromised : Setting → List ℕ → ReportBuffers → Reported → ReportBuffers → Type 0
 ReportPromised setting file lent r held =
     Report.Promised setting file (lent .first) (lent .rest) (lent .parties) r (held .first) (held .rest) (held .parties)
+
+-- the planner for C: of each record a, b, the weight before its month and the weight of the whole reading
+pub record PlanForC : Type 0 where
+  pub from : List ℕ
+  pub to : List ℕ
+  pub before : List ℕ
+  pub whole : List ℕ
+
+abbrev pub PlanForCPromised : LongReading → PlanForC → ℕ → PlanForC → Type 0
+PlanForCPromised r lent n held =
+    C.PlanPromised r (lent .from) (lent .to) (lent .before) (lent .whole) n (held .from) (held .to) (held .before) (held .whole)

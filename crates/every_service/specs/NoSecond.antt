@@ -10,12 +10,13 @@ use Rattle.answer.specs.Promised as Answer
 use Rattle.answer.specs.declared.Refusal.{Refusal}
 use Rattle.curve_numbers.specs.Promised as Curve
 use Rattle.distribute_service.specs.Promised as Distribution
-use Rattle.every_service.specs.Lent.{HourLists, HourPromised, HourForC, HourForCPromised, RunOutputs, RunPromised, ReportBuffers, ReportPromised}
+use Rattle.every_service.specs.Lent.{HourLists, HourPromised, HourForC, HourForCPromised, PlanForC, PlanForCPromised, RunOutputs, RunPromised, ReportBuffers, ReportPromised}
 use Rattle.file_sections.specs.Walk as File
 use Rattle.gln.specs.Promised as Gln
 use Rattle.invoice_service.specs.Promised as Invoice
 use Rattle.month_demands.specs.Demands as Month
 use Rattle.periodise_service.specs.Promised as Periodisation
+use Rattle.plan.specs.Promised as Plan
 use Rattle.reconcile.specs.Promised as Reconcile
 use Rattle.record.specs.Promised as Read
 use Rattle.record.specs.declared.Record.{Record}
@@ -23,6 +24,7 @@ use Rattle.record_service.specs.Plain as Plain
 use Rattle.record_write.specs.Writing as Write
 use Rattle.residual.specs.Promised as OneHour
 use Rattle.residual_service.specs.Promised as Residual
+use Rattle.rules.specs.Plan.{LongReading}
 use Rattle.setting.specs.Asked as Asked
 use Rattle.setting.specs.declared.Setting.{Setting}
 use Rattle.settle_c.specs.Promised as C
@@ -51,6 +53,7 @@ pub record Services : Type 0 where
       → OneFitsWith (HourPromised residual distributed periodised carrier price lent)
   pub loss-of : (party carrier : ℕ) (loss : ℤ) → OneFits (Reconcile.LossOfPromised party carrier loss)
   pub invoice : (amounts lent : List ℤ) → OneFitsWith (Invoice.Promised amounts lent)
+  pub plan : (r : LongReading) → OneFits (Plan.Promised r)
 
 -- THE SAME FOR C: a number for the answer
 pub record ServicesForC : Type 0 where
@@ -64,6 +67,7 @@ pub record ServicesForC : Type 0 where
       (residual : ℕ) (distributed : List ℤ) (periodised : List ℕ) (carrier : ℕ) (price : ℤ) (lent : HourForC)
       → OneFitsWith (HourForCPromised residual distributed periodised carrier price lent)
   pub invoice : (amounts lent : List ℤ) → OneFitsWith (C.InvoicePromised amounts lent)
+  pub plan : (r : LongReading) (lent : PlanForC) → OneFitsWith (PlanForCPromised r lent)
 
 -- ONE RECORD
 pub record Records : Type 0 where

@@ -8,7 +8,7 @@ use lib.IntN.{ℤ}
 use Rattle.answer.specs.Said.{said}
 use Rattle.curve_numbers.specs.Promised as Curve
 use Rattle.distribute_service.specs.Promised as Distribution
-use Rattle.every_service.specs.Lent.{HourLists, HourPromised, HourForC, HourForCPromised, RunOutputs, RunPromised, ReportBuffers, ReportPromised}
+use Rattle.every_service.specs.Lent.{HourLists, HourPromised, HourForC, HourForCPromised, PlanForC, PlanForCPromised, RunOutputs, RunPromised, ReportBuffers, ReportPromised}
 use Rattle.invoice_service.specs.Promised as Invoice
 use Rattle.month_demands.specs.Demands as Month
 use Rattle.month_sums.specs.Told as Month′
@@ -21,6 +21,7 @@ use Rattle.record_write.specs.declared.Written.{Written}
 use Rattle.report_text.specs.Reporting as Report
 use Rattle.residual_service.specs.Promised as Residual
 use Rattle.rules.specs.Refusals.{Refusal, Verdict, refused, verdictTold}
+use Rattle.rules.specs.Plan.{LongReading}
 use Rattle.setting.specs.declared.Setting.{Setting}
 use Rattle.settle_c.specs.Promised as C
 use Rattle.statement_text.specs.Stating as Statement
@@ -70,6 +71,7 @@ pub record NothingWritten : Type 0 where
       (residual : ℕ) (distributed : List ℤ) (periodised : List ℕ) (carrier : ℕ) (price : ℤ) (lent : HourForC)
       → Unwritten NotZero lent (HourForCPromised residual distributed periodised carrier price lent)
   pub invoice-for-C : (amounts lent : List ℤ) → Unwritten NotZero lent (C.InvoicePromised amounts lent)
+  pub plan-for-C : (r : LongReading) (lent : PlanForC) → Unwritten NotZero lent (PlanForCPromised r lent)
   pub write : (r : Record) (gln lent : List ℕ) → Unwritten (Refuses wroteVerdict) lent (Write.Promised r gln lent)
   pub write-plain :
       (kind : ℕ) (numbers : List ℤ) (gln lent : List ℕ)

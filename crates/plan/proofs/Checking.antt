@@ -74,7 +74,7 @@ module _ {f : ℕ → ℕ} {n all i : ℕ} (c : Counting f n all i) (b : i < n) 
   counting-next = record { adding = add-next (c .adding) b is; small = omega (arith, c .small) }
 
 -- WHATEVER THE PLACE: checks that all refuse with one refusal at place 0 accept or refuse with it
-abbrev Either : Refusal → Verdict → Type 0
+abbrev pub Either : Refusal → Verdict → Type 0
 Either r v = (v ≡ accepted) ⊎ (v ≡ refused r 0)
 
 one-at-0 : (r : Refusal) (t : Bool) → Either r (andThen (unless t r 0) accepted)
@@ -82,7 +82,7 @@ unfolding andThen unless
 one-at-0 r true = inl refl
 one-at-0 r false = inr refl
 
-all-at-0 : (r : Refusal) (test : ℕ → Bool) (n : ℕ) → Either r (inTurn n (λ i. unless (test i) r 0))
+pub all-at-0 : (r : Refusal) (test : ℕ → Bool) (n : ℕ) → Either r (inTurn n (λ i. unless (test i) r 0))
 unfolding inTurn figures first andThen
 all-at-0 r test zero = inl refl
 all-at-0 r test (suc n) =

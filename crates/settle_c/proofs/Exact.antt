@@ -2,7 +2,8 @@
 -- check of the lists' lengths.
 use mathlib.Core.Bool.{Bool, true, false, _&&_}
 use mathlib.Core.List.{List, [], _∷_, _++_}
-use mathlib.Core.Path.{_≡_, refl, sym}
+use mathlib.Core.Logic.{⊎-elim}
+use mathlib.Core.Path.{_≡_, refl, sym, subst}
 use Prim.Native.Nat.{ℕ, zero, suc, _+_, _*_, _≤_, _<_}
 use native.Mathlib.Omega.{arith}
 use borrow.Author.Tests.{eqb-true}
@@ -13,6 +14,8 @@ use Rattle.rules.proofs.Refusals.{unless-exactly}
 use Rattle.rules.proofs.Whole.{both-pass, within-is}
 use Rattle.rules.specs.Flows.{Judgement, figure, noFigure, judged, verdictOf}
 use Rattle.rules.specs.Limits.{mostHours, mostParties, mostWeights}
+use Rattle.plan.proofs.Checking.{all-at-0}
+use Rattle.rules.specs.Plan.{LongReading, monthCount, hoursVerdict, partyVerdict, partVerdict, weightVerdict, listChecks, spanChecks, handedChecks, planChecks, lentPlanChecks}
 use Rattle.rules.specs.Refusals.{Refusal, Verdict, accepted, refused, unless, andThen, first, inTurn, numberOf, outOfRange}
 use Rattle.rules.specs.Services.{checkAt, eachAt, checkAtℤ, eachAtℤ, flowsOf, silentCheck, hourCheck}
 use Rattle.rules.specs.Services.{residualChecks, curveChecks, distributionChecks, periodisationChecks, reconciliationChecks, invoiceChecks}
@@ -162,6 +165,27 @@ invoice-early amounts lent =
     first-early _ _ (unless-early _ _ 0 (omega arith)) (λ _.
     first-early _ _ (unless-early _ _ 0 (omega arith)) (λ _.
     last-early _ (unless-early _ _ 0 (omega arith))))
+
+-- the planner refuses at place 0 alone
+at-0-early : (r : Refusal) (test : ℕ → Bool) (n : ℕ) → Early (inTurn n (λ i. unless (test i) r 0))
+at-0-early r test n =
+    ⊎-elim (λ (a : inTurn n (λ i. unless (test i) r 0) ≡ accepted). subst Early (sym a) tt)
+    (λ (b : inTurn n (λ i. unless (test i) r 0) ≡ refused r 0). subst Early (sym b) (omega arith))
+    (all-at-0 r test n)
+
+pub plan-early : (r : LongReading) (from to before whole : ℕ) → Early (first (lentPlanChecks r from to before whole))
+unfolding lentPlanChecks planChecks handedChecks listChecks spanChecks hoursVerdict partyVerdict partVerdict weightVerdict
+plan-early r from to before whole =
+    first-early _ _ (unless-early _ _ 0 (omega arith)) (λ _.
+    first-early _ _ (unless-early _ _ 0 (omega arith)) (λ _.
+    first-early _ _ (at-0-early _ _ (monthCount r)) (λ _.
+    first-early _ _ (unless-early _ _ 0 (omega arith)) (λ _.
+    first-early _ _ (at-0-early _ _ (monthCount r)) (λ _.
+    first-early _ _ (at-0-early _ _ (monthCount r)) (λ _.
+    first-early _ _ (unless-early _ _ 0 (omega arith)) (λ _.
+    first-early _ _ (unless-early _ _ 0 (omega arith)) (λ _.
+    first-early _ _ (at-0-early _ _ (length (r .curves))) (λ _.
+    last-early _ (unless-early _ _ 0 (omega arith)))))))))))
 
 -- number + 256 x place, exactly
 pub exact : (r : Refusal) (place : ℕ) → place < mostWeights → coded (refused r place) ≡ numberOf r + 256 * place

@@ -235,7 +235,13 @@ pub extern "C" fn settle_plan(
         (now («out_a» .entry)) (now («out_b» .entry)) (now («out_before» .entry)) (now («out_whole» .entry))
         r (now («out_a» .exit)) (now («out_b» .exit)) (now («out_before» .exit)) (now («out_whole» .exit)) ⌝ }
 {
-    if !as_many(hours.len(), out_a.len(), out_b.len(), out_before.len(), out_whole.len()) {
+    if !as_many(
+        hours.len(),
+        out_a.len(),
+        out_b.len(),
+        out_before.len(),
+        out_whole.len(),
+    ) {
         let wrong = Answer::Refused(Refusal::WrongLength, 0);
         return code(wrong);
     }
