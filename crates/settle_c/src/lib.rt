@@ -7,17 +7,13 @@ use reconcile_service::Reconciled;
 use record::Over;
 ghost use mathlib.Core.Bool.{_&&_};
 ghost use mathlib.Core.Path.{_≡_};
-ghost use Prim.Native.Nat.{_≤_};
 ghost use lib.Dec.{eqb};
-ghost use lib.ListN.{length};
 ghost use Rattle.answer.specs.Said.{said};
 ghost use Rattle.settle_c.specs.Coded.{numberAt, coded};
 ghost use Rattle.plan.specs.Planning.{handed};
 ghost use Rattle.record.specs.Record.{overOf};
-ghost use Rattle.rules.specs.Limits.{mostMonths};
 ghost use Rattle.rules.specs.Month.{weightBefore, wholeWeight};
-ghost use Rattle.rules.specs.Words.{figures};
-ghost use Rattle.settle_c.specs.Planned.{fromIn, toIn, beforeIn, wholeIn};
+ghost use Rattle.settle_c.specs.Planned.{PlacesFor, NumbersOf};
 ghost use Rattle.settle_c.specs.Promised.{ResidualPromised, CurvePromised, DistributionPromised, PeriodisationPromised, ReconciliationPromised, InvoicePromised, PlanPromised};
 
 // Up to this place, 2 ^ 56 - 1, number + 256 x place is within 64 bits. Every service refuses far below it.
@@ -162,57 +158,27 @@ fn whole_of(over: Over) -> u64
     }
 }
 
-// The records of a plan, number by number, into as many places as are lent.
-fn put_from(p: Planned, out: &mut [u16])
-    requires { ⌜ length (now out) ≤ mostMonths ⌝ }
-    ensures { λ _. ⌜ now (out .exit) ≡ figures (length (now (out .entry))) (fromIn (p .records)) ⌝ }
+// The records of a plan, number by number, into the four lists, which have a place for each month.
+fn put_records(
+    p: Planned,
+    out_a: &mut [u16],
+    out_b: &mut [u16],
+    out_before: &mut [u64],
+    out_whole: &mut [u64],
+)
+    requires { ⌜ PlacesFor (p .months) (now «out_a») (now «out_b») (now «out_before») (now «out_whole») ⌝ }
+    ensures { λ _. ⌜ NumbersOf (p .records) (p .months) (now («out_a» .exit)) (now («out_b» .exit)) (now («out_before» .exit)) (now («out_whole» .exit)) ⌝ }
 {
     let records = p.records;
+    let months = p.months;
     let mut k = 0;
-    while k < out.len() {
-        let x = records[k];
-        out[k] = x.a;
-        k += 1;
-    }
-}
-
-fn put_to(p: Planned, out: &mut [u16])
-    requires { ⌜ length (now out) ≤ mostMonths ⌝ }
-    ensures { λ _. ⌜ now (out .exit) ≡ figures (length (now (out .entry))) (toIn (p .records)) ⌝ }
-{
-    let records = p.records;
-    let mut k = 0;
-    while k < out.len() {
-        let x = records[k];
-        out[k] = x.b;
-        k += 1;
-    }
-}
-
-fn put_before(p: Planned, out: &mut [u64])
-    requires { ⌜ length (now out) ≤ mostMonths ⌝ }
-    ensures { λ _. ⌜ now (out .exit) ≡ figures (length (now (out .entry))) (beforeIn (p .records)) ⌝ }
-{
-    let records = p.records;
-    let mut k = 0;
-    while k < out.len() {
+    while k < months {
         let x = records[k];
         let over = x.over;
-        out[k] = before_of(over);
-        k += 1;
-    }
-}
-
-fn put_whole(p: Planned, out: &mut [u64])
-    requires { ⌜ length (now out) ≤ mostMonths ⌝ }
-    ensures { λ _. ⌜ now (out .exit) ≡ figures (length (now (out .entry))) (wholeIn (p .records)) ⌝ }
-{
-    let records = p.records;
-    let mut k = 0;
-    while k < out.len() {
-        let x = records[k];
-        let over = x.over;
-        out[k] = whole_of(over);
+        out_a[k] = x.a;
+        out_b[k] = x.b;
+        out_before[k] = before_of(over);
+        out_whole[k] = whole_of(over);
         k += 1;
     }
 }
@@ -251,9 +217,6 @@ pub extern "C" fn settle_plan(
         let refused = Answer::Refused(x, place);
         return code(refused);
     }
-    put_from(p, out_a);
-    put_to(p, out_b);
-    put_before(p, out_before);
-    put_whole(p, out_whole);
+    put_records(p, out_a, out_b, out_before, out_whole);
     0
 }

@@ -1,7 +1,6 @@
 -- `settle_c::settle_plan` meets its contract: 16 stands before the planner's checks, and the lists have the numbers of its records (`Lent`). Assumes nothing.
-use Rattle.settle_c.proofs.Lent.{wrong-lent, plan-refuses, few-lent, all-lent}
+use Rattle.settle_c.proofs.Lent.{wrong-lent, plan-refuses, places, all-lent}
 use Rattle.rules.specs.Plan.{monthCount}
-use Rattle.plan.specs.Planning.{handed}
 use borrow.Author.Needs.{needs}
 use Rattle.settle_c.proofs.settle_plan.Statement.{statement}
 use Rattle.settle_c.proofs.settle_plan.Tie as tie
@@ -33,41 +32,12 @@ returns-2 c =
 enum-told : tie.Need-enum-told
 enum-told c = search needs
 
-put-from-requires : tie.Need-put-from-requires
+put-records-requires : tie.Need-put-records-requires
 unfolding monthCount
-put-from-requires c κs =
-    let told = c .before in
-    let start = c .before .before .before .before .before .before .before .before .before .before .before .before .before in
-    few-lent (handed (start .args .e-wh) (start .args .a) (start .args .b) (start .args .parties .now) (start .args .hours .now) (start .args .curves .now))
-    (start .args .out-a .now) (start .args .out-b .now) (start .args .out-before .now) (start .args .out-whole .now)
-    (c .before .before .before .before .before .as-many .ensures) (c .before .before .before .before .if1 .left) _ (c .before .before .before .plan .ensures) (told .enum-told .given .1) .0
-
-put-to-requires : tie.Need-put-to-requires
-unfolding monthCount
-put-to-requires c κs =
-    let told = c .before .before .before .before .before in
-    let start = c .before .before .before .before .before .before .before .before .before .before .before .before .before .before .before .before .before in
-    few-lent (handed (start .args .e-wh) (start .args .a) (start .args .b) (start .args .parties .now) (start .args .hours .now) (start .args .curves .now))
-    (start .args .out-a .now) (start .args .out-b .now) (start .args .out-before .now) (start .args .out-whole .now)
-    (c .before .before .before .before .before .before .before .before .before .as-many .ensures) (c .before .before .before .before .before .before .before .before .if1 .left) _ (c .before .before .before .before .before .before .before .plan .ensures) (told .enum-told .given .1) .1
-
-put-before-requires : tie.Need-put-before-requires
-unfolding monthCount
-put-before-requires c κs =
-    let told = c .before .before .before .before .before .before .before .before .before in
-    let start = c .before .before .before .before .before .before .before .before .before .before .before .before .before .before .before .before .before .before .before .before .before in
-    few-lent (handed (start .args .e-wh) (start .args .a) (start .args .b) (start .args .parties .now) (start .args .hours .now) (start .args .curves .now))
-    (start .args .out-a .now) (start .args .out-b .now) (start .args .out-before .now) (start .args .out-whole .now)
-    (c .before .before .before .before .before .before .before .before .before .before .before .before .before .as-many .ensures) (c .before .before .before .before .before .before .before .before .before .before .before .before .if1 .left) _ (c .before .before .before .before .before .before .before .before .before .before .before .plan .ensures) (told .enum-told .given .1) .2
-
-put-whole-requires : tie.Need-put-whole-requires
-unfolding monthCount
-put-whole-requires c κs =
-    let told = c .before .before .before .before .before .before .before .before .before .before .before .before .before in
-    let start = c .before .before .before .before .before .before .before .before .before .before .before .before .before .before .before .before .before .before .before .before .before .before .before .before .before in
-    few-lent (handed (start .args .e-wh) (start .args .a) (start .args .b) (start .args .parties .now) (start .args .hours .now) (start .args .curves .now))
-    (start .args .out-a .now) (start .args .out-b .now) (start .args .out-before .now) (start .args .out-whole .now)
-    (c .before .before .before .before .before .before .before .before .before .before .before .before .before .before .before .before .before .as-many .ensures) (c .before .before .before .before .before .before .before .before .before .before .before .before .before .before .before .before .if1 .left) _ (c .before .before .before .before .before .before .before .before .before .before .before .before .before .before .before .plan .ensures) (told .enum-told .given .1) .3
+put-records-requires c κs =
+    let told = c .before .before .before .before in
+    let made = told .before .before in
+    places _ _ _ _ _ (made .before .before .as-many .ensures) (made .before .if1 .left) _ (made .plan .ensures) (told .enum-told .given .1)
 
 same-length : tie.Need-same-length
 same-length c = search needs
@@ -84,9 +54,10 @@ same-length-4 c = search needs
 returns-3 : tie.Need-returns-3
 unfolding monthCount
 returns-3 c =
-    let arg = c .before .before .before .before .before .before .before .before .before .before .before .before .before .before .before in
-    all-lent _ _ _ _ _ (arg .before .before .before .before .before .as-many .ensures) (arg .before .before .before .before .if1 .left) _ (arg .before .before .before .plan .ensures) (arg .before .enum-told .given .1) (c .before .before .before .before .before .before .before .before .before .before .before .before .before .before .put-from .ensures)
-    (c .before .before .before .before .before .before .before .before .before .before .put-to .ensures) (c .before .before .before .before .before .before .put-before .ensures) (c .before .before .put-whole .ensures)
+    let put = c .before .before .before .before .before .before .before .before in
+    let told = put .before .before .before .before .before in
+    let made = told .before .before in
+    all-lent _ _ _ _ _ (made .before .before .as-many .ensures) (made .before .if1 .left) _ (made .plan .ensures) (told .enum-told .given .1) (put .put-records .ensures)
 
 pub settle-plan-spec : {M : Type 1} → statement M
 settle-plan-spec =
@@ -100,10 +71,7 @@ settle-plan-spec =
     code-requires-2
     returns-2
     enum-told
-    put-from-requires
-    put-to-requires
-    put-before-requires
-    put-whole-requires
+    put-records-requires
     same-length
     same-length-2
     same-length-3
