@@ -109,7 +109,7 @@ pub record MonthMeets (setting : Setting) (file : List ℕ) (m : MonthFile) (hel
   pub distributed-sums : (i : ℕ) → i < P m → atℤ (held .distributed) i ≡ sumℤ (H m) (λ t. distributed m t i)
   -- "periodised .. (month sums in Wh)"
   pub periodised-sums : (i : ℕ) → i < P m → at (held .periodised) i ≡ sum (H m) (λ t. periodised m t i)
-  -- and that is the sum of the E of the party's readings
+  -- and that is what the party's readings have in this month: the E of those of the month, and the month's parts of those over months (W3)
   pub periodised-of-readings : (i : ℕ) → i < P m → at (held .periodised) i ≡ readEnergy m i
   -- "loss .. (month sums in Wh)", "Loss is 0 for all but the carrier."
   pub loss-sums : (i : ℕ) → i < P m → atℤ (held .losses) i ≡ sumℤ (H m) (λ t. lossOf (m .heading .carrier) (loss m t) i)
