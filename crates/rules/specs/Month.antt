@@ -59,7 +59,7 @@ distributed m t i = distributedFigure (P m) (shareOf m) (appliedWh m) t i
 unfoldable pub weightOf : MonthFile → Reading → ℕ → ℕ
 weightOf m r k = curve m (r .a + k)
 
--- "S is their sum.": W3: "the month's own weight"
+-- "S is their sum." W3 calls it "the month's own weight".
 unfoldable pub S : MonthFile → Reading → ℕ
 S m r = sum (r .b - r .a) (weightOf m r)
 

@@ -104,7 +104,8 @@ pub record Reading : Type 0 where
   pub e : ℕ
   pub over : Over
 
--- A record, by kind; a reading is of the kind 04 or 08 by what it lies over. Of an hour, a refixed hour and a price the first number is the hour field; an end has the number of records before it.
+-- A record, by kind; a reading is of the kind 04 or 08 by what it lies over. Of an hour, a refixed hour and a price the first number is the hour field; an end
+-- has the number of records before it.
 pub data Record : Type 0 where
   heading : Heading → Record
   party : Party → Record

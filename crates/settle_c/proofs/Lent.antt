@@ -96,13 +96,16 @@ module _ (r : LongReading) (from to before whole : List ℕ) {t : Bool}
     unfolding lentPlanChecks
     judged = test-passes wrongLength 0 (planChecks r) (sym t-is ∙ flag-on t on) refl
 
-    pub plan-refuses : {x : Refusal} {place : ℕ} → p .answer ≡ Refused x place → {n : ℕ} → n ≡ coded (said (Refused x place)) → PlanPromised r from to before whole n from to before whole
+    pub plan-refuses : {x : Refusal} {place : ℕ} → p .answer ≡ Refused x place → {n : ℕ} → n ≡ coded (said (Refused x place))
+        → PlanPromised r from to before whole n from to before whole
     plan-refuses told n-is = unwritten (sym judged ∙ sym (promised .answer) ∙ ap said told) n-is
 
     module _ (done : p .answer ≡ Done) where
       lengths : (length from ≡ monthCount r) × (length to ≡ monthCount r) × (length before ≡ monthCount r) × (length whole ≡ monthCount r)
       lengths =
-          let all = both-pass (eqb (length from) (monthCount r) && eqb (length to) (monthCount r) && eqb (length before) (monthCount r)) (eqb (length whole) (monthCount r)) (sym t-is ∙ flag-on t on) in
+          let all =
+          both-pass (eqb (length from) (monthCount r) && eqb (length to) (monthCount r) && eqb (length before) (monthCount r)) (eqb (length whole) (monthCount r))
+          (sym t-is ∙ flag-on t on) in
           let three = both-pass (eqb (length from) (monthCount r) && eqb (length to) (monthCount r)) (eqb (length before) (monthCount r)) (all .0) in
           let two = both-pass (eqb (length from) (monthCount r)) (eqb (length to) (monthCount r)) (three .0) in
           (eqb-true _ _ (two .0), eqb-true _ _ (two .1), eqb-true _ _ (three .1), eqb-true _ _ (all .1))

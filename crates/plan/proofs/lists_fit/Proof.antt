@@ -26,12 +26,15 @@ returns-2 c =
 
 all-hours-requires : tie.Need-all-hours-requires
 all-hours-requires c κs =
-    few (c .before .before .before .before .before .before .before .before .args .parties .now) (c .before .before .before .before .before .before .before .before .args .hours .now) (c .before .before .before .before .before .before .before .before .args .curves .now) (c .before .before .before .before .shaped .ensures) (c .before .before .before .if1 .left)
+    let shape = c .before .before .before .before in
+    let start = shape .before .before .before .before in
+    few (start .args .parties .now) (start .args .hours .now) (start .args .curves .now) (shape .shaped .ensures) (c .before .before .before .if1 .left)
 
 returns-3 : tie.Need-returns-3
 returns-3 c =
     let told = c .before .before in
-    curves-refused _ _ _ (told .before .before .before .before .shaped .ensures) (told .before .before .before .if1 .left) _ (told .before .before .each-month .ensures) (told .enum-told .given .1) (c .before .all-hours .ensures) (c .if2 .taken)
+    curves-refused _ _ _ (told .before .before .before .before .shaped .ensures) (told .before .before .before .if1 .left) _ (told .before .before .each-month .ensures) (told .enum-told .given .1)
+    (c .before .all-hours .ensures) (c .if2 .taken)
 
 each-party-requires : tie.Need-each-party-requires
 each-party-requires c κs = search needs
@@ -39,7 +42,8 @@ each-party-requires c κs = search needs
 returns-4 : tie.Need-returns-4
 returns-4 c =
     let told = c .before .before .before in
-    parties-decide _ _ _ (told .before .before .before .before .shaped .ensures) (told .before .before .before .if1 .left) _ (told .before .before .each-month .ensures) (told .enum-told .given .1) (c .before .before .all-hours .ensures)
+    parties-decide _ _ _ (told .before .before .before .before .shaped .ensures) (told .before .before .before .if1 .left) _ (told .before .before .each-month .ensures) (told .enum-told .given .1)
+    (c .before .before .all-hours .ensures)
     (c .before .if2 .left) (c .each-party .ensures)
 
 pub lists-fit-spec : {M : Type 1} → statement M

@@ -137,7 +137,8 @@ loop-again c =
     let w = added .before .before in
     let l = loop-of w in
     made-next (asked l .pre) (l .loop .inv) (within w) (from-here w) (to-here w) (added .total .ensures)
-    (record-made _ _ _ _ _ _ _ (w .before .before .before .before .part-from .ensures) (w .before .before .before .part-to .ensures) (l .loop .inv .before-is) (asked l .pre .whole-is)) (c .wide3 .ensures .0)
+    (record-made _ _ _ _ _ _ _ (w .before .before .before .before .part-from .ensures) (w .before .before .before .part-to .ensures) (l .loop .inv .before-is) (asked l .pre .whole-is))
+    (c .wide3 .ensures .0)
 
 returns : tie.Need-returns Inv-loop μ-loop
 unfolding monthCount

@@ -35,13 +35,18 @@ refused-requires-2 c κs = search needs
 returns-2 : tie.Need-returns-2
 returns-2 c =
     let told = c .before .before .before .before in
-    nothing-under _ _ _ _ _ _ _ (told .before .before .handed-fits .ensures) (told .enum-told .given .1) (c .before .before .before .whole-weight .ensures) (c .before .before .follows .ensures) (c .before .if1 .taken) (c .refused2 .ensures)
+    nothing-under _ _ _ _ _ _ _ (told .before .before .handed-fits .ensures) (told .enum-told .given .1)
+    (c .before .before .before .whole-weight .ensures) (c .before .before .follows .ensures) (c .before .if1 .taken) (c .refused2 .ensures)
 
 cast-make : tie.Need-cast-make
 cast-make c =
     let told = c .before .before .before in
     let start = c .before .before .before .before .before .before .before .before .before in
-    omega (arith, energy-small (start .args .e-wh) (start .args .a) (start .args .b) (start .args .parties .now) (start .args .hours .now) (start .args .curves .now) _ (told .before .before .handed-fits .ensures) (told .enum-told .given .1))
+    omega (
+      arith,
+      energy-small (start .args .e-wh) (start .args .a) (start .args .b) (start .args .parties .now) (start .args .hours .now) (start .args .curves .now) _
+          (told .before .before .handed-fits .ensures) (told .enum-told .given .1),
+    )
 
 make-requires : tie.Need-make-requires
 make-requires c κs =
@@ -51,7 +56,8 @@ make-requires c κs =
 returns-3 : tie.Need-returns-3
 returns-3 c =
     let told = c .before .before .before .before in
-    made-under _ _ _ _ _ _ _ (told .before .before .handed-fits .ensures) (told .enum-told .given .1) (c .before .before .before .whole-weight .ensures) (c .before .before .follows .ensures) (c .before .if1 .left) (c .make .ensures)
+    made-under _ _ _ _ _ _ _ (told .before .before .handed-fits .ensures) (told .enum-told .given .1)
+    (c .before .before .before .whole-weight .ensures) (c .before .before .follows .ensures) (c .before .if1 .left) (c .make .ensures)
 
 pub plan-spec : {M : Type 1} → statement M
 plan-spec =

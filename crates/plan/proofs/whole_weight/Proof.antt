@@ -38,7 +38,8 @@ total-requires c κs =
 returns : tie.Need-returns
 returns c =
     let start = c .before .before .before .before .before .before in
-    whole-weighs (start .args .a) (start .args .b) (start .args .hours .now) (start .args .curves .now) (start .pre) (c .before .before .before .wide .ensures .0) (c .before .before .reading-hours .ensures) (c .total .ensures)
+    whole-weighs (start .args .a) (start .args .b) (start .args .hours .now) (start .args .curves .now) (start .pre)
+    (c .before .before .before .wide .ensures .0) (c .before .before .reading-hours .ensures) (c .total .ensures)
 
 pub whole-weight-spec : {M : Type 1} → statement M
 whole-weight-spec =

@@ -27,7 +27,9 @@ code-requires-2 c κs = search needs
 returns-2 : tie.Need-returns-2
 unfolding monthCount
 returns-2 c =
-    plan-refuses _ _ _ _ _ (c .before .before .before .before .before .before .as-many .ensures) (c .before .before .before .before .before .if1 .left) _ (c .before .before .before .before .plan .ensures) (c .before .before .answered .given .1) (c .code2 .ensures)
+    let told = c .before .before in
+    let made = told .before .before in
+    plan-refuses _ _ _ _ _ (made .before .before .as-many .ensures) (made .before .if1 .left) _ (made .plan .ensures) (told .answered .given .1) (c .code2 .ensures)
 
 enum-told : tie.Need-enum-told
 enum-told c = search needs
