@@ -13,67 +13,76 @@ use lib.ListN.{length, getD, take, drop, drop-of-length-le}
 use lib.Seq.{drop-cons}
 use Rattle.gln.specs.Gln.{glnAnswer, glnPart}
 use Rattle.gln.specs.declared.Gln.the-variants.{Valid, Invalid}
-use Rattle.rules.specs.Gln.{allDigits, digitFromRight, weightFromRight, weightedSum, validGln, digitsOnto}
+use Rattle.rules.specs.Gln.{allDigits, digitAtPosition, weightOfPosition, weightedDigit, weightedSum, validGln, digitsOnto}
 use Rattle.rules.specs.Limits.{glnDigits}
-use Rattle.rules.specs.Words.{sum, at, within}
+use Rattle.rules.specs.Words.{sum, sumFrom1, at, within}
 
--- a digit with its weight, at its place from the right
-abbrev weighing : List ℕ → ℕ → ℕ
-weighing l k = weightFromRight k * digitFromRight l k
-
--- Before place i: the number and the weighted sum of the digits that were passed.
-pub record Walking (l : List ℕ) (number weighted i : ℕ) : Type 0 where
-  pub bound : i ≤ glnDigits
+-- Before the digit at a position: the number and the weighted sum of the digits that were passed, which stand at the positions above it.
+pub record Walking (l : List ℕ) (number weighted position : ℕ) : Type 0 where
+  pub bound : position ≤ glnDigits
   pub size : length l ≡ glnDigits
-  pub digits : allDigits (drop i l) ≡ allDigits l
-  pub value : digitsOnto number (drop i l) ≡ digitsOnto 0 l
-  pub small : number < 10 ^ i
-  pub weighed : weighted + sum (glnDigits - i) (weighing l) ≡ weightedSum l
-  pub light : weighted ≤ 27 * i
+  pub digits : allDigits (drop (glnDigits - position) l) ≡ allDigits l
+  pub value : digitsOnto number (drop (glnDigits - position) l) ≡ digitsOnto 0 l
+  pub small : number < 10 ^ (glnDigits - position)
+  pub weighed : weighted + sumFrom1 position (weightedDigit l) ≡ weightedSum l
+  pub light : weighted ≤ 27 * (glnDigits - position)
 
-pub walk-start : {l : List ℕ} → length l ≡ glnDigits → Walking l 0 0 0
+pub walk-start : {l : List ℕ} → length l ≡ glnDigits → Walking l 0 0 glnDigits
 unfolding weightedSum
 walk-start {l} e =
-    record { bound = zero-le; size = e; digits = refl; value = refl; small = omega arith; weighed = omega (arith, ap (λ (n : ℕ). sum n (weighing l)) e); light = zero-le }
+    record {
+      bound = omega arith;
+      size = e;
+      digits = refl;
+      value = refl;
+      small = omega arith;
+      weighed = omega (arith, ap (λ (n : ℕ). sumFrom1 n (weightedDigit l)) e);
+      light = zero-le;
+    }
 
-pub number-fits : {l : List ℕ} {n w i : ℕ} → Walking l n w i → i < glnDigits → n < 10 ^ 12
-number-fits {l} {n} {w} {i} h b = let q : i ≤ 12 = omega arith in let p : 10 ^ i ≤ 10 ^ 12 = pow-le-pow-right {n = 10} (omega arith) q in omega (arith, h .small)
+pub number-fits : {l : List ℕ} {n w p : ℕ} → Walking l n w p → 0 < p → n < 10 ^ 12
+number-fits {l} {n} {w} {p} h b =
+    let q : glnDigits - p ≤ 12 = omega arith in
+    let most : 10 ^ (glnDigits - p) ≤ 10 ^ 12 = pow-le-pow-right {n = 10} (omega arith) q in
+    omega (arith, h .small)
 
-module _ {l : List ℕ} {n w i : ℕ} (h : Walking l n w i) (b : i < glnDigits) where
-  here : drop i l ≡ getD l i 0 ∷ drop (suc i) l
-  here = drop-cons l i 0 (omega (arith, h .size))
+-- the sum of the positions up to one is that of the positions before it, and its own
+up-to : (p : ℕ) (f : ℕ → ℕ) → 0 < p → sumFrom1 p f ≡ sumFrom1 (p - 1) f + f p
+unfolding sum sumFrom1
+up-to p f b = let e : p ≡ suc (p - 1) = omega arith in ap (λ (k : ℕ). sumFrom1 k f) e ∙ ap (λ (k : ℕ). sumFrom1 (p - 1) f + f k) (sym e)
 
-  digits-here : within 48 57 (getD l i 0) && allDigits (drop (suc i) l) ≡ allDigits l
+module _ {l : List ℕ} {n w p : ℕ} (h : Walking l n w p) (b : 0 < p) where
+  further : suc (glnDigits - p) ≡ glnDigits - (p - 1)
+  further = omega (arith, h .bound)
+
+  here : drop (glnDigits - p) l ≡ getD l (glnDigits - p) 0 ∷ drop (glnDigits - (p - 1)) l
+  here =
+      drop-cons l (glnDigits - p) 0 (omega (arith, h .size))
+      ∙ ap (λ (k : ℕ). getD l (glnDigits - p) 0 ∷ drop k l) further
+
+  digits-here : within 48 57 (getD l (glnDigits - p) 0) && allDigits (drop (glnDigits - (p - 1)) l) ≡ allDigits l
   unfolding allDigits
   digits-here = ap allDigits (sym here) ∙ h .digits
 
-  weighing-here : weighing l (glnDigits - 1 - i) ≡ weightFromRight (glnDigits - 1 - i) * (getD l i 0 - 48)
-  unfolding digitFromRight at
-  weighing-here =
-      let e : length l - 1 - (glnDigits - 1 - i) ≡ i = omega (arith, h .size) in
-      ap (λ (k : ℕ). weightFromRight (glnDigits - 1 - i) * (getD l k 0 - 48)) e
-
-  weighed-here : w + (sum (glnDigits - 1 - i) (weighing l) + weightFromRight (glnDigits - 1 - i) * (getD l i 0 - 48)) ≡ weightedSum l
-  unfolding sum
-  weighed-here =
-      let e : glnDigits - i ≡ suc (glnDigits - 1 - i) = omega arith in
-      ap (λ (x : ℕ). w + (sum (glnDigits - 1 - i) (weighing l) + x)) (sym weighing-here)
-      ∙ ap (λ (k : ℕ). w + sum k (weighing l)) (sym e)
-      ∙ h .weighed
-
-  value-here : digitsOnto (n * 10 + (getD l i 0 - 48)) (drop (suc i) l) ≡ digitsOnto 0 l
+  value-here : digitsOnto (n * 10 + (getD l (glnDigits - p) 0 - 48)) (drop (glnDigits - (p - 1)) l) ≡ digitsOnto 0 l
   unfolding digitsOnto
   value-here = ap (digitsOnto n) (sym here) ∙ h .value
 
-weight-most : (k : ℕ) → weightFromRight k ≤ 3
-unfolding weightFromRight
-weight-most k = either (eqb (k % 2) 0)
+  weighed-here : w + weightOfPosition p * (getD l (glnDigits - p) 0 - 48) + sumFrom1 (p - 1) (weightedDigit l) ≡ weightedSum l
+  unfolding weightedDigit digitAtPosition at
+  weighed-here =
+      let digit : weightedDigit l p ≡ weightOfPosition p * (getD l (glnDigits - p) 0 - 48) = ap (λ (k : ℕ). weightOfPosition p * (getD l (k - p) 0 - 48)) (h .size) in
+      omega (arith, h .weighed, up-to p (weightedDigit l) b, digit)
+
+weight-most : (k : ℕ) → weightOfPosition k ≤ 3
+unfolding weightOfPosition
+weight-most k = either (eqb (k % 2) 1)
   where
     either : (t : Bool) → cond t 1 3 ≤ 3
     either true = omega arith
     either false = omega arith
 
-pub weighs-at-most : (k : ℕ) {v x : ℕ} → v ≡ weightFromRight k → x ≤ 57 → v * (x - 48) ≤ 27
+pub weighs-at-most : (k : ℕ) {v x : ℕ} → v ≡ weightOfPosition k → x ≤ 57 → v * (x - 48) ≤ 27
 weighs-at-most k {v} {x} e h = let d : x - 48 ≤ 9 = omega arith in rw e (mul-le-mul (weight-most k) d)
 
 digit : {x : ℕ} → 48 ≤ x → x ≤ 57 → within 48 57 x ≡ true
@@ -92,19 +101,18 @@ above-digits {x} p = rw (lt-leb x 57 p) (never (leb 48 x))
     never true = refl
     never false = refl
 
-pub walk-next : {l : List ℕ} {n w i v : ℕ} → Walking l n w i → i < glnDigits → 48 ≤ getD l i 0 → getD l i 0 ≤ 57 → v ≡ weightFromRight (glnDigits - 1 - i)
-    → Walking l (n * 10 + (getD l i 0 - 48)) (w + v * (getD l i 0 - 48)) (i + 1)
-walk-next {l} {n} {w} {i} {v} h b low high e =
-    let one-less : glnDigits - suc i ≡ glnDigits - 1 - i = omega arith in
-    rw (add-one i, e)
+pub walk-next : {l : List ℕ} {n w p v : ℕ} → Walking l n w p → 0 < p → 48 ≤ getD l (glnDigits - p) 0 → getD l (glnDigits - p) 0 ≤ 57 → v ≡ weightOfPosition p
+    → Walking l (n * 10 + (getD l (glnDigits - p) 0 - 48)) (w + v * (getD l (glnDigits - p) 0 - 48)) (p - 1)
+walk-next {l} {n} {w} {p} {v} h b low high e =
+    rw e
     (record {
-      bound = omega arith;
+      bound = omega (arith, h .bound);
       size = h .size;
-      digits = ap (λ (t : Bool). t && allDigits (drop (suc i) l)) (sym (digit low high)) ∙ digits-here h b;
+      digits = ap (λ (t : Bool). t && allDigits (drop (glnDigits - (p - 1)) l)) (sym (digit low high)) ∙ digits-here h b;
       value = value-here h b;
-      small = omega (arith, h .small, pow-suc 10 i);
-      weighed = ap (λ (k : ℕ). w + weightFromRight (glnDigits - 1 - i) * (getD l i 0 - 48) + sum k (weighing l)) one-less ∙ omega (arith, weighed-here h b);
-      light = omega (arith, h .light, weighs-at-most (glnDigits - 1 - i) refl high);
+      small = omega (arith, h .small, pow-suc 10 (glnDigits - p), ap (λ (k : ℕ). 10 ^ k) (further h b));
+      weighed = weighed-here h b;
+      light = omega (arith, h .light, further h b, weighs-at-most p refl high);
     })
 
 -- Bytes of another length, or with one that is no digit, or with a weighted sum that is no multiple of 10, are no GLN; all others are.
@@ -116,26 +124,26 @@ no-digit : (l : List ℕ) → length l ≡ glnDigits → allDigits l ≡ false �
 unfolding glnAnswer validGln
 no-digit l e d = rw (eq-eqb (length l) glnDigits e, d)
 
-stop : {l : List ℕ} {n w i : ℕ} → Walking l n w i → i < glnDigits → within 48 57 (getD l i 0) ≡ false → Invalid ≡ glnAnswer l
-stop {l} {n} {w} {i} h b e = no-digit l (h .size) (sym (digits-here h b) ∙ ap (λ (t : Bool). t && allDigits (drop (suc i) l)) e)
+stop : {l : List ℕ} {n w p : ℕ} → Walking l n w p → 0 < p → within 48 57 (getD l (glnDigits - p) 0) ≡ false → Invalid ≡ glnAnswer l
+stop {l} {n} {w} {p} h b e = no-digit l (h .size) (sym (digits-here h b) ∙ ap (λ (t : Bool). t && allDigits (drop (glnDigits - (p - 1)) l)) e)
 
-pub stop-below : {l : List ℕ} {n w i : ℕ} → Walking l n w i → i < glnDigits → getD l i 0 < 48 → Invalid ≡ glnAnswer l
-stop-below h b p = stop h b (below-digits p)
+pub stop-below : {l : List ℕ} {n w p : ℕ} → Walking l n w p → 0 < p → getD l (glnDigits - p) 0 < 48 → Invalid ≡ glnAnswer l
+stop-below h b low = stop h b (below-digits low)
 
-pub stop-above : {l : List ℕ} {n w i : ℕ} → Walking l n w i → i < glnDigits → 57 < getD l i 0 → Invalid ≡ glnAnswer l
-stop-above h b p = stop h b (above-digits p)
+pub stop-above : {l : List ℕ} {n w p : ℕ} → Walking l n w p → 0 < p → 57 < getD l (glnDigits - p) 0 → Invalid ≡ glnAnswer l
+stop-above h b high = stop h b (above-digits high)
 
-module _ {l : List ℕ} {n w i : ℕ} (h : Walking l n w i) (b : glnDigits ≤ i) where
-  nothing-left : drop i l ≡ []
-  nothing-left = let e : length l ≤ i = omega (arith, h .size) in drop-of-length-le l e
+module _ {l : List ℕ} {n w p : ℕ} (h : Walking l n w p) (b : p ≡ 0) where
+  nothing-left : drop (glnDigits - p) l ≡ []
+  nothing-left = let e : length l ≤ glnDigits - p = omega (arith, h .size) in drop-of-length-le l e
 
   all-digits : true ≡ allDigits l
   unfolding allDigits
   all-digits = ap allDigits (sym nothing-left) ∙ h .digits
 
   all-weighed : w ≡ weightedSum l
-  unfolding sum
-  all-weighed = let e : glnDigits - i ≡ 0 = omega arith in omega (arith, ap (λ (k : ℕ). w + sum k (weighing l)) e, h .weighed)
+  unfolding sum sumFrom1
+  all-weighed = omega (arith, ap (λ (k : ℕ). w + sumFrom1 k (weightedDigit l)) b, h .weighed)
 
   pub end-other : (w % 10 ≡ 0 → ⊥) → Invalid ≡ glnAnswer l
   unfolding glnAnswer validGln

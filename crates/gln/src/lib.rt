@@ -2,7 +2,7 @@
 // right, a multiple of 10"): its test, its number, and the part of a file that holds it.
 ghost use mathlib.Core.Path.{_≡_};
 ghost use Rattle.gln.specs.Promised.{CheckPromised, PartAtPromised};
-ghost use Rattle.rules.specs.Gln.{weightFromRight};
+ghost use Rattle.rules.specs.Gln.{weightOfPosition};
 
 // A GLN's thirteen digits as one number, or the answer that it is none.
 pub enum Gln {
@@ -10,17 +10,24 @@ pub enum Gln {
     Invalid,
 }
 
-// "weighted 1, 3, 1, 3 .. from the right": the weight of the digit at a place from the right, counted from 0.
-fn weight(place: usize) -> u64
-    ensures { λ w. ⌜ w ≡ weightFromRight place ⌝ }
+// GS1's rule counts the positions of the digits from the right, from 1: position 1 is the check digit. "weighted 1, 3, 1, 3 .. from the right": an odd
+// position weighs 1, an even one 3.
+fn weight_of_position(position: usize) -> u64
+    ensures { λ w. ⌜ w ≡ weightOfPosition position ⌝ }
 {
-    if place % 2 == 0 {
+    if position % 2 == 1 {
         return 1;
     }
     3
 }
 
-// One pass over the digits: the number and the weighted sum grow with each, and the first byte that is no digit ends it.
+// One pass over the digits, from the first, at position 13, to the check digit, at position 1: the number and the weighted sum grow with each, and the first
+// byte that is no digit ends it. GS1's worked example, 6291041500213:
+//
+//     position   13  12  11  10   9   8   7   6   5   4   3   2   1
+//     digit       6   2   9   1   0   4   1   5   0   0   2   1   3
+//     weight      1   3   1   3   1   3   1   3   1   3   1   3   1
+//     product     6   6   9   3   0  12   1  15   0   0   2   3   3     sum 60, a multiple of 10
 pub fn check(part: &[u8]) -> Gln
     ensures { λ r. ⌜ CheckPromised (now (part .entry)) r ⌝ }
 {
@@ -29,9 +36,9 @@ pub fn check(part: &[u8]) -> Gln
     }
     let mut number: u64 = 0;
     let mut weighted: u64 = 0;
-    let mut i: usize = 0;
-    while i < limits::GLN_DIGITS {
-        let byte = part[i];
+    let mut position: usize = limits::GLN_DIGITS;
+    while 0 < position {
+        let byte = part[limits::GLN_DIGITS - position];
         if byte < b'0' {
             return Gln::Invalid;
         }
@@ -40,8 +47,8 @@ pub fn check(part: &[u8]) -> Gln
         }
         let digit = (byte - b'0') as u64;
         number = number * 10 + digit;
-        weighted += weight(limits::GLN_DIGITS - 1 - i) * digit;
-        i += 1;
+        weighted += weight_of_position(position) * digit;
+        position -= 1;
     }
     if weighted % 10 != 0 {
         return Gln::Invalid;

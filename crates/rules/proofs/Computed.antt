@@ -1,5 +1,5 @@
 -- What the worked cases compute with, document by document. To unfold one of these names is to unfold all that its line names, and no more is meant by it.
-use Rattle.rules.specs.Words.{sum, sumℤ, count, figures, at, within, atMost, withinℤ, joined, ascii}
+use Rattle.rules.specs.Words.{sum, sumℤ, sumFrom1, count, figures, at, within, atMost, withinℤ, joined, ascii}
 use Rattle.rules.specs.Refusals.{unless, andThen, first, inTurn, answer, afterwards}
 use Rattle.rules.specs.Flows.{residual, silentIsZero, flowsInRange, judgedBy, judged, verdictOf, residualWh, W, curveNumber, appliedSeries}
 use Rattle.rules.specs.Distributed.{roundedDown, remainder, leftOver, runningSum, runningAfter, distributedFigure}
@@ -7,7 +7,7 @@ use Rattle.rules.specs.LargestRemainder.{comesBefore, rank, oneEach}
 use Rattle.rules.specs.Periodised.{sumSoFar, periodisedFigure}
 use Rattle.rules.specs.Reconciliation.{gridLoss, lossOf, differenceOf, amountMillionths}
 use Rattle.rules.specs.Invoice.{oreDown, oreRemainder, downOf, remainderOf, missingOre, invoiceOre}
-use Rattle.rules.specs.Gln.{allDigits, digitFromRight, weightFromRight, weightedSum, validGln, digitsOnto, rises}
+use Rattle.rules.specs.Gln.{allDigits, digitAtPosition, weightOfPosition, weightedDigit, weightedSum, validGln, digitsOnto, rises}
 use Rattle.rules.specs.Services.{atℤ, sameℤ, checkAt, eachAt, checkAtℤ, eachAtℤ, flowsOf, silentCheck, hourCheck, residualChecks, residualAt, residualFigures, curveFits, curveChecks}
 use Rattle.rules.specs.Services.{curveAt, curveFigures, distributionChecks, distributedAt, distributionFigures, periodisationChecks, periodisationFigures, distributedFits}
 use Rattle.rules.specs.Services.{reconciliationChecks, reconciliationLoss, reconciliationDifferences, amountAt, reconciliationAmounts, invoiceChecks, invoiceFigures}
@@ -30,7 +30,7 @@ use Rattle.rules.specs.HoursReport.{statusWord, statusesText, seriesText
 use Rattle.rules.specs.HoursReport.{smallestDistance, largestDistance, fraction, distancesText, distancesLine, reportLines, judgedReport, answeredReport, hoursReport}
 
 unfoldable pub words : Unit {0}
-unfolding sum sumℤ count figures at within atMost withinℤ joined ascii unless andThen first inTurn answer afterwards
+unfolding sum sumℤ sumFrom1 count figures at within atMost withinℤ joined ascii unless andThen first inTurn answer afterwards
 words = tt
 
 unfoldable pub hours-1 : Unit {0}
@@ -46,11 +46,11 @@ unfolding hours-1 hours-2
 hours = tt
 
 unfoldable pub parts-1 : Unit {0}
-unfolding roundedDown remainder leftOver comesBefore rank oneEach runningSum runningAfter distributedFigure allDigits digitFromRight weightFromRight
+unfolding roundedDown remainder leftOver comesBefore rank oneEach runningSum runningAfter distributedFigure allDigits
 parts-1 = tt
 
 unfoldable pub parts-2 : Unit {0}
-unfolding weightedSum validGln digitsOnto rises
+unfolding digitAtPosition weightOfPosition weightedDigit weightedSum validGln digitsOnto rises
 parts-2 = tt
 
 unfoldable pub parts : Unit {0}

@@ -10,6 +10,7 @@ pub mod Periodised
 pub mod Reconciliation
 pub mod Invoice
 pub mod Whole
+pub mod CheckDigit
 pub mod Month
 pub mod Setting
 pub mod Readings

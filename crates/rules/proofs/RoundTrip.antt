@@ -15,7 +15,7 @@ use lib.Seq.{take-at, drop-at, drop-cons, drop-drop, take-suc, take-add, take-al
 use lib.Signed.{mag, leZ}
 use Rattle.rules.specs.Accepted.{NoneRefuses}
 use Rattle.rules.specs.Flows.{Flows, flowsInRange, silentIsZero}
-use Rattle.rules.specs.Gln.{validGln, allDigits, weightedSum}
+use Rattle.rules.specs.Gln.{validGln}
 use Rattle.rules.specs.Limits.{estimated, mostHours, mostParties, greatestShare, greatestFlow, greatestEnergy, greatestPrice, glnDigits}
 use Rattle.rules.specs.Record.{Heading, Over, thisMonth, manyMonths, Reading, Record, heading, party, fixedHour, reading, price, refixedHour, end, hourWidths, layouts}
 use Rattle.rules.specs.Record.{widthsIn, fieldWidths, readingKindOf, weightFields}
@@ -171,9 +171,7 @@ both-true a b e = both-pass a b e
 
 pub valid-length : (gln : List ℕ) → validGln gln ≡ true → length gln ≡ glnDigits
 unfolding validGln
-valid-length gln e =
-    let shape = both-true (eqb (length gln) glnDigits && allDigits gln) (eqb (weightedSum gln % 10) 0) e .0 in
-    eqb-true (length gln) glnDigits (both-true (eqb (length gln) glnDigits) (allDigits gln) shape .0)
+valid-length gln e = eqb-true (length gln) glnDigits (both-true _ _ (both-true _ _ e .0) .0)
 
 -- what the checks of a record alone say: none of them refuses
 pub none-refuses : (r : Record) → first (checks alone r) ≡ accepted → NoneRefuses (checks alone r)

@@ -20,6 +20,10 @@ unfoldable pub sumℤ : ℕ → (ℕ → ℤ) → ℤ
 sumℤ zero f = pos 0
 sumℤ (suc n) f = sumℤ n f +ℤ f n
 
+-- f 1 + f 2 + .. + f n
+unfoldable pub sumFrom1 : ℕ → (ℕ → ℕ) → ℕ
+sumFrom1 n f = sum n (λ i. f (suc i))
+
 -- how many of 0, 1, .. n - 1 pass a test
 unfoldable pub count : ℕ → (ℕ → Bool) → ℕ
 count n test = sum n (λ i. cond (test i) 1 0)

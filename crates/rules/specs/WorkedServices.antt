@@ -2,9 +2,10 @@
 -- alone. Proved in proofs/WorkedServices, by computing the definitions.
 use mathlib.Core.List.{List, [], _∷_}
 use mathlib.Core.Path.{_≡_}
-use Prim.Native.Nat.{ℕ}
+use Prim.Native.Nat.{ℕ, suc}
 use lib.IntN.{ℤ, pos, negsuc}
 use lib.ListN.{replicate}
+use Rattle.rules.specs.Gln.{digitAtPosition, weightOfPosition, weightedDigit, weightedSum}
 use Rattle.rules.specs.PlainRecord.{plainVerdict}
 use Rattle.rules.specs.Plan.{LongReading, planned, planChecks}
 use Rattle.rules.specs.Record.{readingKind, priceKind, endKind, longReadingKind, manyMonths, Reading, fixedHour, price, end, bodyLength, recordBytes, readAlone}
@@ -15,7 +16,7 @@ use Rattle.rules.specs.Refusals.{refusal, first}
 use Rattle.rules.specs.Services.{residualChecks, residualFigures, curveChecks, distributionChecks, periodisationChecks}
 use Rattle.rules.specs.Services.{reconciliationChecks, reconciliationLoss, reconciliationDifferences, reconciliationAmounts, invoiceChecks, invoiceFigures}
 use Rattle.rules.specs.WorkedMonths.{supply, partyOf, readingOf, longReadingOf}
-use Rattle.rules.specs.Words.{figures}
+use Rattle.rules.specs.Words.{figures, ascii}
 
 -- nothing in two hours
 unfoldable pub none : List ℕ
@@ -112,7 +113,12 @@ pub record WorkedServices : Type 0 where
   -- the writer: 4, 5, 11, 12 and then 16; a longer part keeps what stands behind the record
   pub write-share-before-gln : writeVerdict (partyOf "123" 4000000001) 0 ≡ refused outOfRange 0
   pub write-gln : writeVerdict (partyOf "123" 1) 0 ≡ refused glnFault 0
-  -- GS1's worked example, 629104150021 with check digit 3, and a GLN in public use
+  -- GS1's worked example, 629104150021 with check digit 3 (W4): the digits of positions 1, 2, .. 13, their weights, the products, and the sum, a multiple of 10
+  pub gs1-digits : figures 13 (λ k. digitAtPosition (ascii "6291041500213") (suc k)) ≡ 3 ∷ 1 ∷ 2 ∷ 0 ∷ 0 ∷ 5 ∷ 1 ∷ 4 ∷ 0 ∷ 1 ∷ 9 ∷ 2 ∷ 6 ∷ []
+  pub gs1-weights : figures 13 (λ k. weightOfPosition (suc k)) ≡ 1 ∷ 3 ∷ 1 ∷ 3 ∷ 1 ∷ 3 ∷ 1 ∷ 3 ∷ 1 ∷ 3 ∷ 1 ∷ 3 ∷ 1 ∷ []
+  pub gs1-products : figures 13 (λ k. weightedDigit (ascii "6291041500213") (suc k)) ≡ 3 ∷ 3 ∷ 2 ∷ 0 ∷ 0 ∷ 15 ∷ 1 ∷ 12 ∷ 0 ∷ 3 ∷ 9 ∷ 6 ∷ 6 ∷ []
+  pub gs1-sum : weightedSum (ascii "6291041500213") ≡ 60
+  -- the writer takes it, and a GLN in public use, and not the example with another last digit
   pub write-gs1 : writeVerdict (partyOf "6291041500213" 1) 22 ≡ accepted
   pub write-public : writeVerdict (partyOf "5790001330552" 1) 22 ≡ accepted
   pub write-gs1-digit : writeVerdict (partyOf "6291041500214" 1) 22 ≡ refused glnFault 0

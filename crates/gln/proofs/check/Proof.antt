@@ -8,16 +8,19 @@ use Rattle.gln.proofs.check.Statement.{statement}
 use Rattle.gln.proofs.check.Tie as tie
 
 abbrev Inv-loop : tie.InvT-loop
-Inv-loop part number₀ weighted₀ i₀ number weighted i = Walking part number weighted i
+Inv-loop part number₀ weighted₀ position₀ number weighted position = Walking part number weighted position
 
 abbrev μ-loop : tie.MeasureT-loop
-μ-loop part number₀ weighted₀ i₀ number weighted i = glnDigits - i
+μ-loop part number₀ weighted₀ position₀ number weighted position = position
 
 returns : tie.Need-returns Inv-loop μ-loop
 returns c = other-length _ (c .if1 .taken)
 
 loop-holds : tie.Need-loop-holds Inv-loop μ-loop
 loop-holds c = walk-start (omega arith)
+
+sub-byte : tie.Need-sub-byte Inv-loop μ-loop
+sub-byte c = search needs
 
 shared-slice-read-byte : tie.Need-shared-slice-read-byte Inv-loop μ-loop
 shared-slice-read-byte c = omega arith
@@ -37,29 +40,23 @@ mul-number c = omega (arith, number-fits (c .before .before .before .before .loo
 add-number : tie.Need-add-number Inv-loop μ-loop
 add-number c = omega (arith, number-fits (c .before .before .before .before .loop .inv) (omega arith))
 
-sub-weight : tie.Need-sub-weight Inv-loop μ-loop
-sub-weight c = search needs
-
-sub-weight-2 : tie.Need-sub-weight-2 Inv-loop μ-loop
-sub-weight-2 c = search needs
-
-weight-requires : tie.Need-weight-requires Inv-loop μ-loop
-weight-requires c κs = search needs
+weight-of-position-requires : tie.Need-weight-of-position-requires Inv-loop μ-loop
+weight-of-position-requires c κs = search needs
 
 mul-weighted : tie.Need-mul-weighted Inv-loop μ-loop
-mul-weighted c = omega (arith, weighs-at-most _ (c .weight .ensures) (c .before .if3 .left))
+mul-weighted c = omega (arith, weighs-at-most _ (c .weight-of-position .ensures) (c .before .if3 .left))
 
 add-weighted : tie.Need-add-weighted Inv-loop μ-loop
-add-weighted c = omega (arith, weighs-at-most _ (c .weight .ensures) (c .before .if3 .left))
+add-weighted c = omega (arith, weighs-at-most _ (c .weight-of-position .ensures) (c .before .if3 .left))
 
-add-i : tie.Need-add-i Inv-loop μ-loop
-add-i c = search needs
+sub-position : tie.Need-sub-position Inv-loop μ-loop
+sub-position c = search needs
 
 loop-less : tie.Need-loop-less Inv-loop μ-loop
 loop-less c = search needs
 
 loop-again : tie.Need-loop-again Inv-loop μ-loop
-loop-again c = walk-next (c .before .before .before .before .before .loop .inv) (omega arith) (c .before .before .if2 .left) (c .before .if3 .left) (c .weight .ensures)
+loop-again c = walk-next (c .before .before .before .before .before .loop .inv) (omega arith) (c .before .before .if2 .left) (c .before .if3 .left) (c .weight-of-position .ensures)
 
 returns-4 : tie.Need-returns-4 Inv-loop μ-loop
 returns-4 c = end-other (c .before .before .loop .inv) (omega arith) (c .if4 .taken)
@@ -75,18 +72,17 @@ check-spec =
     μ-loop
     returns
     loop-holds
+    sub-byte
     shared-slice-read-byte
     returns-2
     returns-3
     cast-digit
     mul-number
     add-number
-    sub-weight
-    sub-weight-2
-    weight-requires
+    weight-of-position-requires
     mul-weighted
     add-weighted
-    add-i
+    sub-position
     loop-less
     loop-again
     returns-4
