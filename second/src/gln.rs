@@ -8,14 +8,13 @@ use crate::limits::GLN_DIGITS;
 /// A GLN as it stands in the file.
 pub type Gln = [u8; GLN_DIGITS];
 
-/// The sum of all digits, weighted 1, 3, 1, 3 .. from the right.
+/// The sum of all digits, weighted 1, 3, 1, 3 .. from the right. GS1 counts the positions from the right, from 1: an odd one
+/// weighs 1, an even one 3.
 fn weighted_sum(digits: &[u8]) -> u64 {
-    let weight_from_right = |position: usize| if position.is_multiple_of(2) { 1 } else { 3 };
-    digits
-        .iter()
-        .rev()
-        .enumerate()
-        .map(|(position, digit)| weight_from_right(position) * u64::from(digit - b'0'))
+    let weight = |position: u64| if position.is_multiple_of(2) { 3 } else { 1 };
+    (1..)
+        .zip(digits.iter().rev())
+        .map(|(position, digit)| weight(position) * u64::from(digit - b'0'))
         .sum()
 }
 

@@ -9,6 +9,24 @@ fn gs1_worked_example() {
     assert!(is_gln(b"6291041500213"));
 }
 
+/// GS1's published examples: of the ten last digits each has its own alone. The compiled programs read the same (tests/gln).
+#[test]
+fn gs1_published_examples() {
+    for gln in [
+        b"6291041500213",
+        b"4006381333931",
+        b"5412345000013",
+        b"4012345000009",
+        b"0614141000012",
+    ] {
+        for digit in b'0'..=b'9' {
+            let mut other = *gln;
+            other[12] = digit;
+            assert_eq!(is_gln(&other), digit == gln[12], "{other:?}");
+        }
+    }
+}
+
 /// Energinet's and the Danish DataHub's GLNs, and those of published message examples (OIOUBL, Peppol).
 #[test]
 fn glns_in_public_use() {
