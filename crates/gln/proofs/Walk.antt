@@ -5,7 +5,6 @@ use mathlib.Core.List.{List, [], _∷_}
 use mathlib.Core.Path.{_≡_, refl, sym, _∙_, ap}
 use Prim.Native.Nat.{ℕ, suc, _+_, _-_, _*_, _%_, _^_, _≤_, _<_, zero-le}
 use native.Mathlib.Nat.{pow-le-pow-right, pow-suc, mul-le-mul}
-use native.Mathlib.Numerals.{add-one}
 use native.Mathlib.Omega.{arith}
 use borrow.Author.Tests.{le-leb, lt-leb, eq-eqb, ne-eqb}
 use lib.Dec.{eqb, leb}
@@ -17,12 +16,19 @@ use Rattle.rules.specs.Gln.{allDigits, digitAtPosition, weightOfPosition, weigh
 use Rattle.rules.specs.Limits.{glnDigits}
 use Rattle.rules.specs.Words.{sum, sumFrom1, at, within}
 
+-- the byte at a position, and the bytes from it on to the last: the first byte stands at position 13
+abbrev byteAt : List ℕ → ℕ → ℕ
+byteAt l position = getD l (glnDigits - position) 0
+
+abbrev bytesFrom : List ℕ → ℕ → List ℕ
+bytesFrom l position = drop (glnDigits - position) l
+
 -- Before the digit at a position: the number and the weighted sum of the digits that were passed, which stand at the positions above it.
 pub record Walking (l : List ℕ) (number weighted position : ℕ) : Type 0 where
   pub bound : position ≤ glnDigits
   pub size : length l ≡ glnDigits
-  pub digits : allDigits (drop (glnDigits - position) l) ≡ allDigits l
-  pub value : digitsOnto number (drop (glnDigits - position) l) ≡ digitsOnto 0 l
+  pub digits : allDigits (bytesFrom l position) ≡ allDigits l
+  pub value : digitsOnto number (bytesFrom l position) ≡ digitsOnto 0 l
   pub small : number < 10 ^ (glnDigits - position)
   pub weighed : weighted + sumFrom1 position (weightedDigit l) ≡ weightedSum l
   pub light : weighted ≤ 27 * (glnDigits - position)
@@ -55,35 +61,33 @@ module _ {l : List ℕ} {n w p : ℕ} (h : Walking l n w p) (b : 0 < p) where
   further : suc (glnDigits - p) ≡ glnDigits - (p - 1)
   further = omega (arith, h .bound)
 
-  here : drop (glnDigits - p) l ≡ getD l (glnDigits - p) 0 ∷ drop (glnDigits - (p - 1)) l
-  here =
-      drop-cons l (glnDigits - p) 0 (omega (arith, h .size))
-      ∙ ap (λ (k : ℕ). getD l (glnDigits - p) 0 ∷ drop k l) further
+  here : bytesFrom l p ≡ byteAt l p ∷ bytesFrom l (p - 1)
+  here = drop-cons l (glnDigits - p) 0 (omega (arith, h .size)) ∙ ap (λ (k : ℕ). byteAt l p ∷ drop k l) further
 
-  digits-here : within 48 57 (getD l (glnDigits - p) 0) && allDigits (drop (glnDigits - (p - 1)) l) ≡ allDigits l
+  digits-here : within 48 57 (byteAt l p) && allDigits (bytesFrom l (p - 1)) ≡ allDigits l
   unfolding allDigits
   digits-here = ap allDigits (sym here) ∙ h .digits
 
-  value-here : digitsOnto (n * 10 + (getD l (glnDigits - p) 0 - 48)) (drop (glnDigits - (p - 1)) l) ≡ digitsOnto 0 l
+  value-here : digitsOnto (n * 10 + (byteAt l p - 48)) (bytesFrom l (p - 1)) ≡ digitsOnto 0 l
   unfolding digitsOnto
   value-here = ap (digitsOnto n) (sym here) ∙ h .value
 
-  weighed-here : w + weightOfPosition p * (getD l (glnDigits - p) 0 - 48) + sumFrom1 (p - 1) (weightedDigit l) ≡ weightedSum l
+  weighed-here : w + weightOfPosition p * (byteAt l p - 48) + sumFrom1 (p - 1) (weightedDigit l) ≡ weightedSum l
   unfolding weightedDigit digitAtPosition at
   weighed-here =
-      let digit : weightedDigit l p ≡ weightOfPosition p * (getD l (glnDigits - p) 0 - 48) = ap (λ (k : ℕ). weightOfPosition p * (getD l (k - p) 0 - 48)) (h .size) in
-      omega (arith, h .weighed, up-to p (weightedDigit l) b, digit)
+      let its-own : weightedDigit l p ≡ weightOfPosition p * (byteAt l p - 48) = ap (λ (k : ℕ). weightOfPosition p * (getD l (k - p) 0 - 48)) (h .size) in
+      omega (arith, h .weighed, up-to p (weightedDigit l) b, its-own)
 
-weight-most : (k : ℕ) → weightOfPosition k ≤ 3
+weight-most : (p : ℕ) → weightOfPosition p ≤ 3
 unfolding weightOfPosition
-weight-most k = either (eqb (k % 2) 1)
+weight-most p = either (eqb (p % 2) 1)
   where
     either : (t : Bool) → cond t 1 3 ≤ 3
     either true = omega arith
     either false = omega arith
 
-pub weighs-at-most : (k : ℕ) {v x : ℕ} → v ≡ weightOfPosition k → x ≤ 57 → v * (x - 48) ≤ 27
-weighs-at-most k {v} {x} e h = let d : x - 48 ≤ 9 = omega arith in rw e (mul-le-mul (weight-most k) d)
+pub weighs-at-most : (p : ℕ) {v x : ℕ} → v ≡ weightOfPosition p → x ≤ 57 → v * (x - 48) ≤ 27
+weighs-at-most p {v} {x} e h = let d : x - 48 ≤ 9 = omega arith in rw e (mul-le-mul (weight-most p) d)
 
 digit : {x : ℕ} → 48 ≤ x → x ≤ 57 → within 48 57 x ≡ true
 unfolding within
@@ -101,14 +105,14 @@ above-digits {x} p = rw (lt-leb x 57 p) (never (leb 48 x))
     never true = refl
     never false = refl
 
-pub walk-next : {l : List ℕ} {n w p v : ℕ} → Walking l n w p → 0 < p → 48 ≤ getD l (glnDigits - p) 0 → getD l (glnDigits - p) 0 ≤ 57 → v ≡ weightOfPosition p
-    → Walking l (n * 10 + (getD l (glnDigits - p) 0 - 48)) (w + v * (getD l (glnDigits - p) 0 - 48)) (p - 1)
+pub walk-next : {l : List ℕ} {n w p v : ℕ} → Walking l n w p → 0 < p → 48 ≤ byteAt l p → byteAt l p ≤ 57 → v ≡ weightOfPosition p
+    → Walking l (n * 10 + (byteAt l p - 48)) (w + v * (byteAt l p - 48)) (p - 1)
 walk-next {l} {n} {w} {p} {v} h b low high e =
     rw e
     (record {
       bound = omega (arith, h .bound);
       size = h .size;
-      digits = ap (λ (t : Bool). t && allDigits (drop (glnDigits - (p - 1)) l)) (sym (digit low high)) ∙ digits-here h b;
+      digits = ap (λ (t : Bool). t && allDigits (bytesFrom l (p - 1))) (sym (digit low high)) ∙ digits-here h b;
       value = value-here h b;
       small = omega (arith, h .small, pow-suc 10 (glnDigits - p), ap (λ (k : ℕ). 10 ^ k) (further h b));
       weighed = weighed-here h b;
@@ -124,17 +128,17 @@ no-digit : (l : List ℕ) → length l ≡ glnDigits → allDigits l ≡ false �
 unfolding glnAnswer validGln
 no-digit l e d = rw (eq-eqb (length l) glnDigits e, d)
 
-stop : {l : List ℕ} {n w p : ℕ} → Walking l n w p → 0 < p → within 48 57 (getD l (glnDigits - p) 0) ≡ false → Invalid ≡ glnAnswer l
-stop {l} {n} {w} {p} h b e = no-digit l (h .size) (sym (digits-here h b) ∙ ap (λ (t : Bool). t && allDigits (drop (glnDigits - (p - 1)) l)) e)
+stop : {l : List ℕ} {n w p : ℕ} → Walking l n w p → 0 < p → within 48 57 (byteAt l p) ≡ false → Invalid ≡ glnAnswer l
+stop {l} {n} {w} {p} h b e = no-digit l (h .size) (sym (digits-here h b) ∙ ap (λ (t : Bool). t && allDigits (bytesFrom l (p - 1))) e)
 
-pub stop-below : {l : List ℕ} {n w p : ℕ} → Walking l n w p → 0 < p → getD l (glnDigits - p) 0 < 48 → Invalid ≡ glnAnswer l
+pub stop-below : {l : List ℕ} {n w p : ℕ} → Walking l n w p → 0 < p → byteAt l p < 48 → Invalid ≡ glnAnswer l
 stop-below h b low = stop h b (below-digits low)
 
-pub stop-above : {l : List ℕ} {n w p : ℕ} → Walking l n w p → 0 < p → 57 < getD l (glnDigits - p) 0 → Invalid ≡ glnAnswer l
+pub stop-above : {l : List ℕ} {n w p : ℕ} → Walking l n w p → 0 < p → 57 < byteAt l p → Invalid ≡ glnAnswer l
 stop-above h b high = stop h b (above-digits high)
 
 module _ {l : List ℕ} {n w p : ℕ} (h : Walking l n w p) (b : p ≡ 0) where
-  nothing-left : drop (glnDigits - p) l ≡ []
+  nothing-left : bytesFrom l p ≡ []
   nothing-left = let e : length l ≤ glnDigits - p = omega (arith, h .size) in drop-of-length-le l e
 
   all-digits : true ≡ allDigits l
@@ -147,11 +151,11 @@ module _ {l : List ℕ} {n w p : ℕ} (h : Walking l n w p) (b : p ≡ 0) where
 
   pub end-other : (w % 10 ≡ 0 → ⊥) → Invalid ≡ glnAnswer l
   unfolding glnAnswer validGln
-  end-other p = rw (eq-eqb (length l) glnDigits (h .size), ← all-digits, ← all-weighed, ne-eqb (w % 10) 0 p)
+  end-other e = rw (eq-eqb (length l) glnDigits (h .size), ← all-digits, ← all-weighed, ne-eqb (w % 10) 0 e)
 
   pub end-valid : w % 10 ≡ 0 → Valid n ≡ glnAnswer l
   unfolding glnAnswer validGln digitsOnto
-  end-valid p = rw (eq-eqb (length l) glnDigits (h .size), ← all-digits, ← all-weighed, eq-eqb (w % 10) 0 p) (ap Valid (ap (digitsOnto n) (sym nothing-left) ∙ h .value))
+  end-valid e = rw (eq-eqb (length l) glnDigits (h .size), ← all-digits, ← all-weighed, eq-eqb (w % 10) 0 e) (ap Valid (ap (digitsOnto n) (sym nothing-left) ∙ h .value))
 
 -- The part: thirteen bytes from a place on, or none.
 pub part-there : (file : List ℕ) (p : ℕ) → p + glnDigits ≤ length file → take (p + glnDigits - p) (drop p file) ≡ glnPart file p

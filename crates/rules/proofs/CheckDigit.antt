@@ -1,9 +1,9 @@
 -- The check digit as GS1 publishes it: the weighted sum of the other digits, subtracted from the nearest equal or higher multiple of ten. 01 says it of all
 -- thirteen ("makes the sum of all digits .. a multiple of 10"): of ten last digits both take the same one, and no other.
-use mathlib.Core.Bool.{Bool, true, _&&_}
+use mathlib.Core.Bool.{true}
 use mathlib.Core.List.{List, [], _∷_, _++_}
 use mathlib.Core.Logic.{_↔_}
-use mathlib.Core.Path.{_≡_, refl, sym, _∙_, ap}
+use mathlib.Core.Path.{_≡_, sym, _∙_, ap}
 use Prim.Native.Nat.{ℕ, suc, _+_, _-_, _*_, _/_, _%_, _<_, _≤_}
 use native.Mathlib.Omega.{arith}
 use borrow.Author.Tests.{eqb-true, eq-eqb, le-leb}

@@ -1,9 +1,7 @@
 -- `gln::check` meets its contract: what is left of the bytes says what the whole says. Assumes nothing.
-use Prim.Native.Nat.{_-_}
 use native.Mathlib.Omega.{arith}
 use borrow.Author.Needs.{needs}
 use Rattle.gln.proofs.Walk.{Walking, walk-start, walk-next, number-fits, weighs-at-most, other-length, stop-below, stop-above, end-other, end-valid}
-use Rattle.rules.specs.Limits.{glnDigits}
 use Rattle.gln.proofs.check.Statement.{statement}
 use Rattle.gln.proofs.check.Tie as tie
 
