@@ -15,6 +15,7 @@ use Rattle.gln.specs.declared.Gln.the-variants.{Valid, Invalid}
 use Rattle.rules.specs.Gln.{allDigits, digitAtPosition, weightOfPosition, weightedDigit, weightedSum, validGln, digitsOnto}
 use Rattle.rules.specs.Limits.{glnDigits}
 use Rattle.rules.specs.Words.{sum, sumFrom1, at, within}
+use Rattle.rules.proofs.Sums.{sum-from-1}
 
 -- the byte at a position, and the bytes from it on to the last: the first byte stands at position 13
 abbrev byteAt : List ℕ → ℕ → ℕ
@@ -52,11 +53,6 @@ number-fits {l} {n} {w} {p} h b =
     let most : 10 ^ (glnDigits - p) ≤ 10 ^ 12 = pow-le-pow-right {n = 10} (omega arith) q in
     omega (arith, h .small)
 
--- the sum of the positions up to one is that of the positions before it, and its own
-up-to : (p : ℕ) (f : ℕ → ℕ) → 0 < p → sumFrom1 p f ≡ sumFrom1 (p - 1) f + f p
-unfolding sum sumFrom1
-up-to p f b = let e : p ≡ suc (p - 1) = omega arith in ap (λ (k : ℕ). sumFrom1 k f) e ∙ ap (λ (k : ℕ). sumFrom1 (p - 1) f + f k) (sym e)
-
 module _ {l : List ℕ} {n w p : ℕ} (h : Walking l n w p) (b : 0 < p) where
   further : suc (glnDigits - p) ≡ glnDigits - (p - 1)
   further = omega (arith, h .bound)
@@ -76,7 +72,7 @@ module _ {l : List ℕ} {n w p : ℕ} (h : Walking l n w p) (b : 0 < p) where
   unfolding weightedDigit digitAtPosition at
   weighed-here =
       let its-own : weightedDigit l p ≡ weightOfPosition p * (byteAt l p - 48) = ap (λ (k : ℕ). weightOfPosition p * (getD l (k - p) 0 - 48)) (h .size) in
-      omega (arith, h .weighed, up-to p (weightedDigit l) b, its-own)
+      omega (arith, h .weighed, sum-from-1 p (weightedDigit l) b, its-own)
 
 weight-most : (p : ℕ) → weightOfPosition p ≤ 3
 unfolding weightOfPosition

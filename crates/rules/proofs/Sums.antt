@@ -1,11 +1,11 @@
--- Laws of `sum`: each by one induction on how many figures are added; and what a loop that adds up has.
+-- Laws of `sum` and `sumFrom1`: each by one induction on how many figures are added; and what a loop that adds up has.
 use mathlib.Core.Path.{_≡_, refl, sym, _∙_, ap}
 use Prim.Native.Nat.{ℕ, zero, suc, _+_, _-_, _*_, _≤_, _<_, zero-le}
 use mathlib.Core.Logic.{⊎-elim}
 use native.Mathlib.Nat.{le-refl, le-antisymm, zero-mul, add-suc, add-zero, eq-or-lt-of-le, le-of-suc-le-suc}
 use native.Mathlib.Numerals.{add-one}
 use native.Mathlib.Omega.{arith}
-use Rattle.rules.specs.Words.{sum}
+use Rattle.rules.specs.Words.{sum, sumFrom1}
 
 -- only the figures below n count
 pub sum-cong : (n : ℕ) {f g : ℕ → ℕ} → ((i : ℕ) → i < n → f i ≡ g i) → sum n f ≡ sum n g
@@ -63,7 +63,11 @@ unfolding sum
 sum-split a zero f = rw (add-zero a) (omega arith)
 sum-split a (suc b) f = rw add-suc (omega (arith, sum-split a b f))
 
--- by hour and then by party is by party and then by hour
+-- counted from 1: the last figure, and the sum of those before it
+pub sum-from-1 : (n : ℕ) (f : ℕ → ℕ) → 0 < n → sumFrom1 n f ≡ sumFrom1 (n - 1) f + f n
+unfolding sum sumFrom1
+sum-from-1 n f b = let e : n ≡ suc (n - 1) = omega arith in ap (λ (k : ℕ). sumFrom1 k f) e ∙ ap (λ (k : ℕ). sumFrom1 (n - 1) f + f k) (sym e)
+
 -- a sum does not fall as more is added
 pub sum-rises : (f : ℕ → ℕ) {k n : ℕ} → k ≤ n → sum k f ≤ sum n f
 sum-rises f {k} {n} b =
@@ -71,6 +75,7 @@ sum-rises f {k} {n} b =
     let s : sum n f ≡ sum (k + (n - k)) f = ap (λ (m : ℕ). sum m f) e in
     omega (arith, sum-split k (n - k) f)
 
+-- by hour and then by party is by party and then by hour
 pub sum-swap : (n h : ℕ) (f : ℕ → ℕ → ℕ) → sum n (λ i. sum h (λ t. f t i)) ≡ sum h (λ t. sum n (f t))
 unfolding sum
 sum-swap zero h f = sym (sum-zero h (λ t b. refl))

@@ -13,7 +13,7 @@ allDigits [] = true
 allDigits (byte ∷ rest) = within 48 57 byte && allDigits rest
 
 -- W4: "weights follow the position from the right as the rule states". GS1's rule counts the positions of the digits from the right, from 1: position 1 is
--- the check digit.
+-- the check digit. The digit there, 48 being the byte of 0:
 unfoldable pub digitAtPosition : List ℕ → ℕ → ℕ
 digitAtPosition gln position = at gln (length gln - position) - 48
 
