@@ -8,12 +8,12 @@ use borrow.Author.Tests.{le-leb}
 use Rattle.gln.specs.Gln.{glnPart}
 use lib.ListN.{length, getD, take, drop, length-drop}
 use lib.Seq.{drop-drop, length-take-le}
-use Rattle.record.specs.Record.{Whole, recordAs, flowsAt, glnBytes}
+use Rattle.record.specs.Record.{Whole, recordAs, flowsAt, glns, glnsIn}
 use Rattle.rules.specs.Limits.{glnDigits}
-use Rattle.rules.specs.Record.{headingKind, partyKind, fixedHourKind, readingKind, priceKind, refixedHourKind, endKind, longReadingKind, hourWidths, layouts, widthsIn}
-use Rattle.rules.specs.Record.{fieldWidths, thisMonth, manyMonths}
+use Rattle.rules.specs.Record.{headingKind, partyKind, fixedHourKind, readingKind, priceKind, refixedHourKind, endKind, longReadingKind, brpPartyKind, hourWidths, layouts, widthsIn}
+use Rattle.rules.specs.Record.{fieldWidths, ownBrp, namedBrp, thisMonth, manyMonths}
 use Rattle.rules.specs.Record.{heading, party, fixedHour, reading, price, refixedHour, end, bodyLength, numberOnto, signed, cutInto, field, numberAt, signedAt}
-use Rattle.rules.specs.Record.{headingFrom, flowsFrom, readingFrom, recordFrom, kindAt, recordAt}
+use Rattle.rules.specs.Record.{headingFrom, flowsFrom, partyFrom, readingFrom, recordFrom, kindAt, recordAt}
 use Rattle.rules.specs.Words.{at}
 use Rattle.rules.proofs.EachKind.{NoneOfTheOthers, last-kind}
 
@@ -42,9 +42,16 @@ pub heading-is : (s : List ℕ)
 unfolding recordAs recordFrom headingFrom fieldWidths layouts widthsIn field numberAt
 heading-is s = ap (recordFrom headingKind) (cut-at (2 ∷ 2 ∷ 1 ∷ 2 ∷ 1 ∷ 1 ∷ []) 1 s)
 
-pub party-is : (s : List ℕ) → 22 ≤ length s → party (record { gln = glnBytes s; share = num 8 14 s }) ≡ recordAs partyKind s
-unfolding recordAs recordFrom fieldWidths layouts widthsIn field numberAt glnBytes glnPart
+pub party-is : (s : List ℕ) → 22 ≤ length s → party (record { gln = glnsIn s .gln; brp = ownBrp; share = num 8 14 s }) ≡ recordAs partyKind s
+unfolding recordAs recordFrom partyFrom fieldWidths layouts widthsIn field numberAt glnPart
 party-is s h = rw (le-leb 14 (length s) (omega arith)) (ap (recordFrom partyKind) (cut-at (glnDigits ∷ 8 ∷ []) 1 s))
+
+pub brp-party-is : (s : List ℕ) → 35 ≤ length s
+    → party (record { gln = glnsIn s .gln; brp = namedBrp (glnsIn s .brpGln); share = num 8 27 s }) ≡ recordAs brpPartyKind s
+unfolding recordAs recordFrom partyFrom fieldWidths layouts widthsIn field numberAt glnPart
+brp-party-is s h =
+    rw (le-leb 14 (length s) (omega arith), le-leb 27 (length s) (omega arith))
+    (ap (recordFrom brpPartyKind) (cut-at (glnDigits ∷ glnDigits ∷ 8 ∷ []) 1 s))
 
 pub flows-is : (s : List ℕ) → 36 ≤ length s
     → record { status = num 1 3 s; net = signed 8 (num 8 4 s); production = num 8 12 s; hourly = num 8 20 s; flex = num 8 28 s } ≡ flowsAt s

@@ -1,5 +1,5 @@
 -- The rule of a record's fields stands once: what the code tests of the fields, with the GLN tested already, is what the rules test.
-use mathlib.Core.Bool.{Bool, true, false, cond, _&&_}
+use mathlib.Core.Bool.{Bool, true, false, cond, not, _&&_}
 use mathlib.Core.List.{List, [], _∷_}
 use mathlib.Core.Path.{_≡_, refl, sym, _∙_, ap}
 use Prim.Native.Nat.{ℕ, zero, suc, _≤_, _<_}
@@ -11,11 +11,14 @@ use lib.Signed.{leZ}
 use mir.Facts.{toZ-ofZ}
 use mir.Syntax.{w64}
 use mir.Val.{SFits, toZ, ofZ}
+use Rattle.answer.proofs.Checks.{flag-off, flag-on}
 use Rattle.gln.specs.Gln.{glnAnswer}
 use Rattle.gln.specs.declared.Gln.{Gln}
 use Rattle.gln.specs.declared.Gln.the-variants.{Valid, Invalid}
-use Rattle.record.specs.Record.{headingOf, flowsOf, faultOf}
+use Rattle.record.specs.Record.{headingOf, flowsOf, Glns, glns, noGlns, brpOf, faultOf}
 use Rattle.record.specs.declared.Record.the-variants.{Heading, Party, FixedHour, Reading, Price, RefixedHour, End}
+use Rattle.record.specs.declared.Brp as CBrp
+use Rattle.record.specs.declared.Brp.the-variants.{Own, Named}
 use Rattle.record.specs.declared.Heading as CHeading
 use Rattle.record.specs.declared.Flows as CFlows
 use Rattle.record.specs.declared.Reading as CReading
@@ -55,68 +58,86 @@ only-check : (x : Refusal) (place : ℕ) {v : Verdict} {t b : Bool} → t ≡ b 
 unfolding first
 only-check x place {v} {t} {b} e h = h ∙ ap (λ (s : Bool). unless s x place) e ∙ sym (then-accepted (unless b x place))
 
-module _ (hours parties place : ℕ) (gln : List ℕ) {v : Verdict} {t : Bool} (says : v ≡ unless t outOfRange place) where
-  pub heading-fault : (h : CHeading.Heading) → t ≡ headingInRange (headingOf h) → v ≡ faultOf hours parties gln (Heading h) place
+module _ (hours parties place : ℕ) (beside : Glns) {v : Verdict} {t : Bool} (says : v ≡ unless t outOfRange place) where
+  pub heading-fault : (h : CHeading.Heading) → t ≡ headingInRange (headingOf h) → v ≡ faultOf hours parties beside (Heading h) place
   unfolding faultOf checks
   heading-fault h e = only-check outOfRange place e says
 
-  pub fixed-fault : (hour : ℕ) (f : CFlows.Flows) → t ≡ hourInRange hours hour (flowsOf f) → v ≡ faultOf hours parties gln (FixedHour hour f) place
+  pub fixed-fault : (hour : ℕ) (f : CFlows.Flows) → t ≡ hourInRange hours hour (flowsOf f) → v ≡ faultOf hours parties beside (FixedHour hour f) place
   unfolding faultOf checks
   fixed-fault hour f e = only-check outOfRange place e says
 
-  pub refixed-fault : (hour : ℕ) (f : CFlows.Flows) → t ≡ hourInRange hours hour (flowsOf f) → v ≡ faultOf hours parties gln (RefixedHour hour f) place
+  pub refixed-fault : (hour : ℕ) (f : CFlows.Flows) → t ≡ hourInRange hours hour (flowsOf f) → v ≡ faultOf hours parties beside (RefixedHour hour f) place
   unfolding faultOf checks
   refixed-fault hour f e = only-check outOfRange place e says
 
-  pub price-fault : (hour : ℕ) (p : ℤ) → SFits w64 p → t ≡ ltb hour hours && withinℤ greatestPrice (toZ w64 (ofZ w64 p)) → v ≡ faultOf hours parties gln (Price hour p) place
+  pub price-fault : (hour : ℕ) (p : ℤ) → SFits w64 p → t ≡ ltb hour hours && withinℤ greatestPrice (toZ w64 (ofZ w64 p)) → v ≡ faultOf hours parties beside (Price hour p) place
   unfolding faultOf checks
   price-fault hour p f e =
       only-check outOfRange place (e ∙ ap (λ (z : ℤ). ltb hour hours && withinℤ greatestPrice z) (toZ-ofZ f)) says
 
 -- what is not asked of a kind does not change its checks: a party's are the same for every H and P, a reading's for every GLN, and an end has none
-pub party-anywhere : (hours parties place : ℕ) (gln : List ℕ) (share : ℕ) → faultOf 0 0 gln (Party share) place ≡ faultOf hours parties gln (Party share) place
+pub party-anywhere :
+    (hours parties place : ℕ) (beside : Glns) (brp : CBrp.Brp) (share : ℕ) → faultOf 0 0 beside (Party brp share) place ≡ faultOf hours parties beside (Party brp share) place
 unfolding faultOf checks
-party-anywhere hours parties place gln share = refl
+party-anywhere hours parties place beside brp share = refl
 
-pub reading-anyhow : (hours parties place : ℕ) (gln : List ℕ) (r : CReading.Reading) → faultOf hours parties [] (Reading r) place ≡ faultOf hours parties gln (Reading r) place
+pub reading-anyhow :
+    (hours parties place : ℕ) (beside : Glns) (r : CReading.Reading) → faultOf hours parties noGlns (Reading r) place ≡ faultOf hours parties beside (Reading r) place
 unfolding faultOf checks
-reading-anyhow hours parties place gln r = refl
+reading-anyhow hours parties place beside r = refl
 
-pub end-has-none : (hours parties place : ℕ) (gln : List ℕ) (count : ℕ) → accepted ≡ faultOf hours parties gln (End count) place
+pub end-has-none : (hours parties place : ℕ) (beside : Glns) (count : ℕ) → accepted ≡ faultOf hours parties beside (End count) place
 unfolding faultOf checks first andThen unless
-end-has-none hours parties place gln count = refl
+end-has-none hours parties place beside count = refl
+
+-- whether a GLN is valid, as the check tells it
+pub valid-is : (bytes : List ℕ) {g : Gln} → g ≡ glnAnswer bytes → {n : ℕ} → g ≡ Valid n → true ≡ validGln bytes
+unfolding glnAnswer
+valid-is bytes tested {n} is = go (validGln bytes) (sym is ∙ tested)
+  where
+    go : (v : Bool) → Valid n ≡ cond v (Valid (digitsOnto 0 bytes)) Invalid → true ≡ v
+    go true same = refl
+    go false same = absurd (let z : _≡_ {A = ℕ} 0 1 = cc in omega arith)
+
+pub invalid-is : (bytes : List ℕ) {g : Gln} → g ≡ glnAnswer bytes → g ≡ Invalid → false ≡ validGln bytes
+unfolding glnAnswer
+invalid-is bytes tested is = go (validGln bytes) (sym is ∙ tested)
+  where
+    go : (v : Bool) → Invalid ≡ cond v (Valid (digitsOnto 0 bytes)) Invalid → false ≡ v
+    go true same = absurd (let z : _≡_ {A = ℕ} 0 1 = cc in omega arith)
+    go false same = refl
 
 -- 4 and 5 of a party, test by test
-module _ (gln : List ℕ) (share place : ℕ) where
-  pub share-above : greatestShare < share → refused outOfRange place ≡ faultOf 0 0 gln (Party share) place
+module _ (beside : Glns) (brp : CBrp.Brp) (share place : ℕ) where
+  abbrev partyFault : Verdict
+  partyFault = faultOf 0 0 beside (Party brp share) place
+
+  pub share-above : greatestShare < share → refused outOfRange place ≡ partyFault
   unfolding faultOf checks first andThen unless
   share-above h = rw (lt-leb share greatestShare h)
 
-  module _ (right : share ≤ greatestShare) {g : Gln} (tested : g ≡ glnAnswer gln) where
-    by-test : (v : Bool) → validGln gln ≡ v → unless v glnFault place ≡ faultOf 0 0 gln (Party share) place
+  module _ (right : share ≤ greatestShare) {t : Bool} (tested : t ≡ validGln (beside .gln)) where
+    pub gln-bad : not t ≡ true → refused glnFault place ≡ partyFault
     unfolding faultOf checks first andThen unless
-    by-test v e = rw (le-leb share greatestShare right, e) (sym (then-accepted (cond v accepted (refused glnFault place))))
+    gln-bad bad = rw (le-leb share greatestShare right, sym tested, flag-off t bad)
 
-    pub gln-valid : {n : ℕ} → g ≡ Valid n → accepted ≡ faultOf 0 0 gln (Party share) place
-    unfolding glnAnswer unless
-    gln-valid {n} is = go (validGln gln) refl (sym is ∙ tested)
-      where
-        go : (v : Bool) → validGln gln ≡ v → Valid n ≡ cond v (Valid (digitsOnto 0 gln)) Invalid → accepted ≡ faultOf 0 0 gln (Party share) place
-        go true e same = by-test true e
-        go false e same = absurd (let z : _≡_ {A = ℕ} 0 1 = cc in omega arith)
+    module _ (valid : not t ≡ false) where
+      -- a party that is its own BRP has no other GLN
+      pub own-brp : brp ≡ Own → accepted ≡ partyFault
+      unfolding faultOf checks first andThen unless
+      own-brp is = rw (is, le-leb share greatestShare right, sym tested, flag-on t valid)
 
-    pub gln-invalid : g ≡ Invalid → refused glnFault place ≡ faultOf 0 0 gln (Party share) place
-    unfolding glnAnswer unless
-    gln-invalid is = go (validGln gln) refl (sym is ∙ tested)
-      where
-        go : (v : Bool) → validGln gln ≡ v → Invalid ≡ cond v (Valid (digitsOnto 0 gln)) Invalid → refused glnFault place ≡ faultOf 0 0 gln (Party share) place
-        go true e same = absurd (let z : _≡_ {A = ℕ} 0 1 = cc in omega arith)
-        go false e same = by-test false e
+      pub named-brp : brp ≡ Named → {v : Verdict} {b : Bool} → v ≡ unless b glnFault place → b ≡ validGln (beside .brpGln) → v ≡ partyFault
+      unfolding faultOf checks first andThen unless
+      named-brp is {v} {b} says brp-tested =
+          rw (is, le-leb share greatestShare right, sym tested, flag-on t valid)
+          (says ∙ ap (λ (x : Bool). cond x accepted (refused glnFault place)) brp-tested ∙ sym (then-accepted (cond (validGln (beside .brpGln)) accepted (refused glnFault place))))
 
 -- 4, 11 and 12 of a reading, test by test
 module _ (hours parties place : ℕ) (r : CReading.Reading) where
   abbrev readingFault : Verdict
-  readingFault = faultOf hours parties [] (Reading r) place
+  readingFault = faultOf hours parties noGlns (Reading r) place
 
   pub no-party : parties ≤ r .party → refused outOfRange place ≡ readingFault
   unfolding faultOf checks first andThen unless

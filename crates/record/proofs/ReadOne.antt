@@ -1,6 +1,6 @@
 -- Reading one record alone: each test of the code is the next check of the rules, and past the tests of kind and length the rule of the fields decides.
 use mathlib.Core.List.{List}
-use mathlib.Core.Path.{_≡_, sym, _∙_, ap}
+use mathlib.Core.Path.{_≡_, sym, _∙_, ap, ap₂}
 use Prim.Native.Nat.{ℕ, _+_, _≤_, _<_}
 use borrow.Author.Tests.{le-leb, lt-leb}
 use lib.ListN.{length}
@@ -8,8 +8,7 @@ use Rattle.answer.specs.Said.{named, said}
 use Rattle.answer.specs.declared.Answer as A
 use Rattle.answer.specs.declared.Answer.the-variants.{Done, Refused}
 use Rattle.answer.specs.declared.Refusal as A′
-use Rattle.gln.specs.Gln.{glnPart}
-use Rattle.record.specs.Record.{Whole, recordOf, glnBytes, faultOf}
+use Rattle.record.specs.Record.{Whole, recordOf, glns, glnsIn, faultOf}
 use Rattle.record.specs.declared.Record as C
 use Rattle.rules.specs.Record.{Record, bodyLength, known, kindAt, recordAt, alone, checks, readAlone}
 use Rattle.rules.specs.Refusals.{Verdict, Answer, given, refusal, fileFault, unknownKind, unless, andThen, first, answer}
@@ -42,19 +41,19 @@ module _ (s : List ℕ) where
             rw (le-leb 1 (length s) some, le-leb 1 (bodyLength (kindAt s)) kind, le-leb (1 + bodyLength (kindAt s)) (length s) fits)
 
         -- what the rule of the fields says of the decoded record is the answer
-        module _ (r : C.Record) (decoded : recordOf (glnBytes s) r ≡ recordAt s) {part : List ℕ} (there : part ≡ glnPart s 1)
-            (a : A.Answer) (fault : said a ≡ faultOf mostHours mostParties part r 0) where
-          told-by : answer (said a) (recordOf (glnBytes s) r) ≡ readAlone s
-          unfolding glnBytes faultOf
+        module _ (r : C.Record) (decoded : recordOf (glnsIn s) r ≡ recordAt s) {gln brpGln : List ℕ} (there : gln ≡ glnsIn s .gln) (brp-there : brpGln ≡ glnsIn s .brpGln)
+            (a : A.Answer) (fault : said a ≡ faultOf mostHours mostParties (glns gln brpGln) r 0) where
+          told-by : answer (said a) (recordOf (glnsIn s) r) ≡ readAlone s
+          unfolding faultOf
           told-by =
-              ap (λ (v : Verdict). answer v (recordOf (glnBytes s) r)) (fault ∙ ap (λ (l : List ℕ). faultOf mostHours mostParties l r 0) there)
+              ap (λ (v : Verdict). answer v (recordOf (glnsIn s) r)) (fault ∙ ap₂ (λ (g b : List ℕ). faultOf mostHours mostParties (glns g b) r 0) there brp-there)
               ∙ ap (λ (x : Record). answer (first (checks alone x)) x) decoded
               ∙ judged
 
-          pub whole-record : a ≡ Done → given (recordOf (glnBytes s) r) ≡ readAlone s
+          pub whole-record : a ≡ Done → given (recordOf (glnsIn s) r) ≡ readAlone s
           unfolding answer
-          whole-record e = ap (λ (x : A.Answer). answer (said x) (recordOf (glnBytes s) r)) (sym e) ∙ told-by
+          whole-record e = ap (λ (x : A.Answer). answer (said x) (recordOf (glnsIn s) r)) (sym e) ∙ told-by
 
           pub faulty-record : {x : A′.Refusal} {place : ℕ} → a ≡ Refused x place → refusal (named x) place ≡ readAlone s
           unfolding answer
-          faulty-record e = ap (λ (x : A.Answer). answer (said x) (recordOf (glnBytes s) r)) (sym e) ∙ told-by
+          faulty-record e = ap (λ (x : A.Answer). answer (said x) (recordOf (glnsIn s) r)) (sym e) ∙ told-by

@@ -4,7 +4,7 @@ use mathlib.Core.Path.{_≡_}
 use Prim.Native.Nat.{ℕ}
 use Rattle.answer.specs.Said.{said}
 use Rattle.answer.specs.declared.Answer.{Answer}
-use Rattle.record.specs.Record.{faultOf, glnBytes, told}
+use Rattle.record.specs.Record.{faultOf, glns, glnsIn, told}
 use Rattle.record.specs.declared.Read.{Read}
 use Rattle.record.specs.declared.Record.{Record}
 use Rattle.rules.specs.Record.{bodyLength, readAlone}
@@ -13,10 +13,10 @@ use Rattle.rules.specs.Record.{bodyLength, readAlone}
 abbrev pub BodyLengthPromised : ℕ → ℕ → Type 0
 BodyLengthPromised kind n = n ≡ bodyLength kind
 
--- `fault`: of a record, with the bytes that stand for its GLN, in a month of so many hours and parties, refused at this place
-abbrev pub FaultPromised : Record → List ℕ → ℕ → ℕ → ℕ → Answer → Type 0
-FaultPromised r gln hours parties place a = said a ≡ faultOf hours parties gln r place
+-- `fault`: of a record, with the bytes that stand for its GLN and for its BRP's, in a month of so many hours and parties, refused at this place
+abbrev pub FaultPromised : Record → List ℕ → List ℕ → ℕ → ℕ → ℕ → Answer → Type 0
+FaultPromised r gln brpGln hours parties place a = said a ≡ faultOf hours parties (glns gln brpGln) r place
 
 -- `read_alone`
 abbrev pub ReadAlonePromised : List ℕ → Read → Type 0
-ReadAlonePromised part r = told (glnBytes part) r ≡ readAlone part
+ReadAlonePromised part r = told (glnsIn part) r ≡ readAlone part

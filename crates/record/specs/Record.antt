@@ -1,6 +1,6 @@
 -- What the code's records and answers are in the words of the rules (01 "The month file").
 use mathlib.Core.Bool.{true}
-use mathlib.Core.List.{List}
+use mathlib.Core.List.{List, []}
 use mathlib.Core.Path.{_≡_}
 use Prim.Native.Nat.{ℕ, _+_, _≤_}
 use lib.ListN.{length, drop}
@@ -8,6 +8,8 @@ use Rattle.answer.specs.Said.{named}
 use Rattle.gln.specs.Gln.{glnPart}
 use Rattle.record.specs.declared.Heading as CHeading
 use Rattle.record.specs.declared.Flows as CFlows
+use Rattle.record.specs.declared.Brp as CBrp
+use Rattle.record.specs.declared.Brp.the-variants.{Own, Named}
 use Rattle.record.specs.declared.Over as COver
 use Rattle.record.specs.declared.Over.the-variants.{ThisMonth, ManyMonths}
 use Rattle.record.specs.declared.Reading as CReading
@@ -28,6 +30,26 @@ abbrev pub flowsOf : CFlows.Flows → RFlows.Flows
 flowsOf f =
     record { status = f .status; net = f .«net_wh»; production = f .«production_wh»; hourly = f .«hourly_wh»; flex = f .«flex_wh» }
 
+-- the bytes of a party's GLN and of its BRP's, which stand beside the code's record
+pub record Glns : Type 0 where
+  pub gln : List ℕ
+  pub brpGln : List ℕ
+
+abbrev pub glns : List ℕ → List ℕ → Glns
+glns gln brpGln = record { gln = gln; brpGln = brpGln }
+
+-- of a record that is no party's
+abbrev pub noGlns : Glns
+noGlns = glns [] []
+
+abbrev pub brpOf : CBrp.Brp → List ℕ → RRecord.Brp
+brpOf Own brpGln = RRecord.ownBrp
+brpOf Named brpGln = RRecord.namedBrp brpGln
+
+-- a party's kind, which no GLN is needed for
+abbrev pub kindOfBrp : CBrp.Brp → ℕ
+kindOfBrp brp = RRecord.partyKindOf (brpOf brp [])
+
 abbrev pub overOf : COver.Over → RRecord.Over
 overOf ThisMonth = RRecord.thisMonth
 overOf (ManyMonths before whole) = RRecord.manyMonths before whole
@@ -35,19 +57,19 @@ overOf (ManyMonths before whole) = RRecord.manyMonths before whole
 abbrev pub readingOf : CReading.Reading → RRecord.Reading
 readingOf r = record { party = r .party; a = r .a; b = r .b; e = r .«e_wh»; over = overOf (r .over) }
 
--- the record that the code's record is, with the bytes of a GLN beside it
-abbrev pub recordOf : List ℕ → Record → RRecord.Record
-recordOf gln (Heading h) = RRecord.heading (headingOf h)
-recordOf gln (Party share) = RRecord.party (record { gln = gln; share = share })
-recordOf gln (FixedHour hour f) = RRecord.fixedHour hour (flowsOf f)
-recordOf gln (Reading r) = RRecord.reading (readingOf r)
-recordOf gln (Price hour p) = RRecord.price hour p
-recordOf gln (RefixedHour hour f) = RRecord.refixedHour hour (flowsOf f)
-recordOf gln (End count) = RRecord.end count
+-- the record that the code's record is, with the bytes of its GLNs beside it
+abbrev pub recordOf : Glns → Record → RRecord.Record
+recordOf beside (Heading h) = RRecord.heading (headingOf h)
+recordOf beside (Party brp share) = RRecord.party (record { gln = beside .gln; brp = brpOf brp (beside .brpGln); share = share })
+recordOf beside (FixedHour hour f) = RRecord.fixedHour hour (flowsOf f)
+recordOf beside (Reading r) = RRecord.reading (readingOf r)
+recordOf beside (Price hour p) = RRecord.price hour p
+recordOf beside (RefixedHour hour f) = RRecord.refixedHour hour (flowsOf f)
+recordOf beside (End count) = RRecord.end count
 
--- "02 party: GLN 13 ASCII digits": the part after the kind byte, where a party record has its GLN
-unfoldable pub glnBytes : List ℕ → List ℕ
-glnBytes bytes = glnPart bytes 1
+-- "02 party: GLN 13 ASCII digits", "12 .. supplier GLN 13, BRP GLN 13": the part after the kind byte, where a party record has its GLN, and the part after that
+abbrev pub glnsIn : List ℕ → Glns
+glnsIn bytes = glns (glnPart bytes 1) (glnPart bytes 14)
 
 -- the record of a kind whose body stands after the first of some bytes
 unfoldable pub recordAs : ℕ → List ℕ → RRecord.Record
@@ -57,9 +79,9 @@ recordAs kind bytes = RRecord.recordFrom kind (RRecord.cutInto (RRecord.fieldWid
 unfoldable pub flowsAt : List ℕ → RFlows.Flows
 flowsAt bytes = RRecord.flowsFrom (RRecord.cutInto RRecord.hourWidths (drop 1 bytes))
 
--- 4, 5, 11, 12, in that order, of a record with the bytes of a GLN beside it, by itself with so many hours and parties, at a place
-unfoldable pub faultOf : ℕ → ℕ → List ℕ → Record → ℕ → Verdict
-faultOf hours parties gln r place = first (RRecord.checks (RRecord.byItself hours parties place) (recordOf gln r))
+-- 4, 5, 11, 12, in that order, of a record with the bytes of its GLNs beside it, by itself with so many hours and parties, at a place
+unfoldable pub faultOf : ℕ → ℕ → Glns → Record → ℕ → Verdict
+faultOf hours parties beside r place = first (RRecord.checks (RRecord.byItself hours parties place) (recordOf beside r))
 
 -- a record of some kind stands whole at the start of some bytes
 pub record Whole (bytes : List ℕ) : Type 0 where
@@ -67,6 +89,6 @@ pub record Whole (bytes : List ℕ) : Type 0 where
   pub fits : 1 + RRecord.bodyLength (RRecord.kindAt bytes) ≤ length bytes
 
 -- what reading one record tells
-abbrev pub told : List ℕ → Read → Answer RRecord.Record
-told gln (R.Given r) = given (recordOf gln r)
-told gln (R.Refused r place) = refusal (named r) place
+abbrev pub told : Glns → Read → Answer RRecord.Record
+told beside (R.Given r) = given (recordOf beside r)
+told beside (R.Refused r place) = refusal (named r) place

@@ -10,7 +10,7 @@ use answer::Refusal;
 ghost use mathlib.Core.Path.{_≡_};
 ghost use Prim.Native.Nat.{_+_, _≤_};
 ghost use lib.ListN.{length, take, drop};
-ghost use Rattle.record.specs.Record.{recordOf, headingOf, flowsOf, overOf, readingOf, glnBytes, flowsAt, recordAs, Whole};
+ghost use Rattle.record.specs.Record.{recordOf, headingOf, flowsOf, kindOfBrp, overOf, readingOf, glnsIn, flowsAt, recordAs, Whole};
 ghost use Rattle.record.specs.Promised.{BodyLengthPromised, FaultPromised, ReadAlonePromised};
 ghost use Rattle.rules.specs.Record.{headingKind, readingKind, longReadingKind, readingKindOf, heading, reading, bodyLength, numberOnto, signed, recordAt};
 
@@ -33,6 +33,12 @@ pub struct Flows {
     pub flex_wh: u64,
 }
 
+// Who is balance responsible for a party (02, W5): the party itself, or another that the record names by its GLN.
+pub enum Brp {
+    Own,
+    Named,
+}
+
 // What a reading's E lies over: this month, or several months (02, W3: "weight before this month 8, weight of the whole reading 8").
 pub enum Over {
     ThisMonth,
@@ -48,10 +54,10 @@ pub struct Reading {
     pub over: Over,
 }
 
-// A record by kind. A party's GLN stands beside it, as a part of the file: here is its load share in kWh.
+// A record by kind. A party's GLN and its BRP's stand beside it, as parts of the file: here is whether it names a BRP, and its load share in kWh.
 pub enum Record {
     Heading(Heading),
-    Party(u64),
+    Party(Brp, u64),
     FixedHour(u16, Flows),
     Reading(Reading),
     Price(u16, i64),
@@ -69,6 +75,8 @@ pub enum Read {
 pub const HEADING_SIZE: usize = 1 + table::BODY[kind::HEADING as usize] as usize;
 
 pub const PARTY_SIZE: usize = 1 + table::BODY[kind::PARTY as usize] as usize;
+
+pub const BRP_PARTY_SIZE: usize = 1 + table::BODY[kind::BRP_PARTY as usize] as usize;
 
 pub const HOUR_SIZE: usize = 1 + table::BODY[kind::FIXED_HOUR as usize] as usize;
 
@@ -172,6 +180,7 @@ pub fn price_in(part: &[u8]) -> i64
     fields::signed(fields::number_at(part, 3, 4), TOP_4)
 }
 
+// A party's load share: in a 02 record after its GLN, in a 12 record after its BRP's.
 pub fn share_in(part: &[u8]) -> u64
     requires { ⌜ 22 ≤ length (now part) ⌝ }
     ensures { λ r. ⌜ r ≡ numberOnto 0 (take 8 (drop 14 (now (part .entry)))) ⌝ }
@@ -179,32 +188,70 @@ pub fn share_in(part: &[u8]) -> u64
     fields::number_at(part, 14, 8)
 }
 
-// The record that stands whole at the start of a part; the bytes of a party's GLN stand after its kind.
+pub fn brp_share_in(part: &[u8]) -> u64
+    requires { ⌜ 35 ≤ length (now part) ⌝ }
+    ensures { λ r. ⌜ r ≡ numberOnto 0 (take 8 (drop 27 (now (part .entry)))) ⌝ }
+{
+    fields::number_at(part, 27, 8)
+}
+
+// A party's kind byte, by whether it names a BRP.
+pub fn party_kind(brp: Brp) -> u8
+    ensures { λ k. ⌜ k ≡ kindOfBrp brp ⌝ }
+{
+    match brp {
+        Brp::Own => kind::PARTY,
+        Brp::Named => kind::BRP_PARTY,
+    }
+}
+
+// "supplier GLN 13, BRP GLN 13": a party's thirteen digits, as the part of the record that holds them, and the thirteen after them, which are its BRP's in a 12.
+pub fn gln_in<'a>(part: &'a [u8]) -> &'a [u8]
+    ensures { λ r. ⌜ now r ≡ glnsIn (now (part .entry)) .gln ⌝ }
+{
+    gln::part_at(part, 1)
+}
+
+pub fn brp_gln_in<'a>(part: &'a [u8]) -> &'a [u8]
+    ensures { λ r. ⌜ now r ≡ glnsIn (now (part .entry)) .brpGln ⌝ }
+{
+    gln::part_at(part, 14)
+}
+
+// The record that stands whole at the start of a part; the bytes of a party's GLNs stand after its kind.
 pub fn decode(part: &[u8]) -> Record
     requires { ⌜ Whole (now part) ⌝ }
-    ensures { λ r. ⌜ recordOf (glnBytes (now (part .entry))) r ≡ recordAt (now (part .entry)) ⌝ }
+    ensures { λ r. ⌜ recordOf (glnsIn (now (part .entry))) r ≡ recordAt (now (part .entry)) ⌝ }
 {
     let first = part[0];
     match first {
         kind::HEADING => Record::Heading(heading_in(part)),
-        kind::PARTY => Record::Party(share_in(part)),
+        kind::PARTY => Record::Party(Brp::Own, share_in(part)),
         kind::FIXED_HOUR => Record::FixedHour(fields::u16_at(part, 1), flows_in(part)),
         kind::READING => Record::Reading(reading_in(part)),
         kind::PRICE => Record::Price(fields::u16_at(part, 1), price_in(part)),
         kind::REFIXED_HOUR => Record::RefixedHour(fields::u16_at(part, 1), flows_in(part)),
         kind::LONG_READING => Record::Reading(long_reading_in(part)),
+        kind::BRP_PARTY => Record::Party(Brp::Named, brp_share_in(part)),
         _ => Record::End(fields::u32_at(part, 1)),
     }
 }
 
 // THE RULE OF A RECORD'S FIELDS, 4, 5, 11, 12 in that order, kind by kind, for a file of so many hours and parties, at a place. The bytes of a party's GLN
-// stand beside it; of another kind they are not looked at.
-pub fn fault(r: Record, gln: &[u8], hours: u16, parties: u8, place: usize) -> Answer
-    ensures { λ a. ⌜ FaultPromised r (now (gln .entry)) hours parties place a ⌝ }
+// and of its BRP's stand beside it; of another kind they are not looked at.
+pub fn fault(
+    r: Record,
+    gln: &[u8],
+    brp_gln: &[u8],
+    hours: u16,
+    parties: u8,
+    place: usize,
+) -> Answer
+    ensures { λ a. ⌜ FaultPromised r (now (gln .entry)) (now («brp_gln» .entry)) hours parties place a ⌝ }
 {
     match r {
         Record::Heading(h) => rule::unless(rule::heading_in_range(h), Refusal::OutOfRange, place),
-        Record::Party(share) => rule::party_fault(share, gln, place),
+        Record::Party(brp, share) => rule::party_fault(brp, share, gln, brp_gln, place),
         Record::FixedHour(hour, f) => rule::unless(
             rule::hour_in_range(hours, hour, f),
             Refusal::OutOfRange,
@@ -240,7 +287,7 @@ pub fn read_alone(part: &[u8]) -> Read
         return Read::Refused(Refusal::FileFault, 0);
     }
     let r = decode(part);
-    let a = fault(r, gln::part_at(part, 1), MOST_HOURS, MOST_PARTIES, 0);
+    let a = fault(r, gln_in(part), brp_gln_in(part), MOST_HOURS, MOST_PARTIES, 0);
     match a {
         Answer::Done => Read::Given(r),
         Answer::Refused(x, place) => Read::Refused(x, place),

@@ -1,4 +1,5 @@
 // The rule of a record's fields (01 "Numbers that bound it"): what is tested of each kind.
+use crate::Brp;
 use crate::Flows;
 use crate::Heading;
 use crate::MOST_HOURS;
@@ -12,12 +13,12 @@ ghost use mathlib.Core.Path.{_≡_};
 ghost use lib.Dec.{eqb, ltb};
 ghost use lib.IntN.{natAbs};
 ghost use mathlib.Core.Bool.{_&&_};
-ghost use mathlib.Core.List.{[]};
 ghost use Rattle.answer.specs.Said.{named, said};
-ghost use Rattle.record.specs.Record.{headingOf, flowsOf, faultOf};
+ghost use Rattle.record.specs.Record.{headingOf, flowsOf, glns, noGlns, faultOf};
 ghost use Rattle.rules.specs.Refusals.{unless};
 ghost use Rattle.rules.specs.Words.{withinℤ};
 ghost use Rattle.rules.specs.Flows.{flowsInRange, silentIsZero};
+ghost use Rattle.rules.specs.Gln.{validGln};
 ghost use Rattle.rules.specs.Limits.{greatestFlow, greatestPrice};
 ghost use Rattle.rules.specs.Record.{headingInRange, hourInRange};
 
@@ -92,22 +93,35 @@ pub fn hour_in_range(hours: u16, hour: u16, f: Flows) -> bool
     (hour < hours) & flows_in_range(f)
 }
 
-// 4 and 5 of a party: "Load share 0..4,000,000,000", then "GLN not digits, wrong check digit"
-pub fn party_fault(share: u64, gln: &[u8], place: usize) -> Answer
-    ensures { λ a. ⌜ said a ≡ faultOf 0 0 (now (gln .entry)) (Record.Party share) place ⌝ }
+// Thirteen digits with the right check digit.
+fn gln_valid(gln: &[u8]) -> bool
+    ensures { λ b. ⌜ b ≡ validGln (now (gln .entry)) ⌝ }
+{
+    match gln::check(gln) {
+        Gln::Valid(_) => true,
+        Gln::Invalid => false,
+    }
+}
+
+// 4 and 5 of a party: "Load share 0..4,000,000,000", then "GLN not digits, wrong check digit"; W5: "a bad BRP GLN is 5".
+pub fn party_fault(brp: Brp, share: u64, gln: &[u8], brp_gln: &[u8], place: usize) -> Answer
+    ensures { λ a. ⌜ said a ≡ faultOf 0 0 (glns (now (gln .entry)) (now («brp_gln» .entry))) (Record.Party brp share) place ⌝ }
 {
     if limits::GREATEST_SHARE_KWH < share {
         return Answer::Refused(Refusal::OutOfRange, place);
     }
-    match gln::check(gln) {
-        Gln::Valid(_) => Answer::Done,
-        Gln::Invalid => Answer::Refused(Refusal::GlnFault, place),
+    if !gln_valid(gln) {
+        return Answer::Refused(Refusal::GlnFault, place);
+    }
+    match brp {
+        Brp::Own => Answer::Done,
+        Brp::Named => unless(gln_valid(brp_gln), Refusal::GlnFault, place),
     }
 }
 
 // 4, 11 and 12 of a reading: "a reading's party below P", "a not below b, b above H", "E too large"
 pub fn reading_fault(r: Reading, hours: u16, parties: u8, place: usize) -> Answer
-    ensures { λ a. ⌜ said a ≡ faultOf hours parties [] (Record.Reading r) place ⌝ }
+    ensures { λ a. ⌜ said a ≡ faultOf hours parties noGlns (Record.Reading r) place ⌝ }
 {
     if parties <= r.party {
         return Answer::Refused(Refusal::OutOfRange, place);

@@ -1,4 +1,4 @@
-// The body length at each kind byte (01 "The month file": "The body lengths, by kind, are these"; 02, W3), and 0 for an unknown kind.
+// The body length at each kind byte (01 "The month file": "The body lengths, by kind, are these"; 02, W3 and W5), and 0 for an unknown kind.
 pub const BODY: [u8; 256] = [
     0,
     9,
@@ -18,7 +18,7 @@ pub const BODY: [u8; 256] = [
     0,
     0,
     0,
-    0,
+    34,
     0,
     0,
     0,

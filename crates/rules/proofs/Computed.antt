@@ -1,4 +1,6 @@
 -- What the worked cases compute with, document by document. To unfold one of these names is to unfold all that its line names, and no more is meant by it.
+use Rattle.rules.specs.Brp.{brpOf, inItsPlace, differentOnes, brps, suppliesFor, suppliersOf, onlyOf, onlyOfℤ, sumOfBrp, sumOfBrpℤ, brpDistributed}
+use Rattle.rules.specs.Brp.{brpPeriodised, brpLoss, brpDifference, brpMonthDistributed, brpMonthPeriodised, brpMonthLoss, brpMonthDifference, brpInvoice, brpShare}
 use Rattle.rules.specs.Words.{sum, sumℤ, sumFrom1, count, figures, at, within, atMost, withinℤ, joined, ascii}
 use Rattle.rules.specs.Refusals.{unless, andThen, first, inTurn, answer, afterwards}
 use Rattle.rules.specs.Flows.{residual, silentIsZero, flowsInRange, judgedBy, judged, verdictOf, residualWh, W, curveNumber, appliedSeries}
@@ -12,8 +14,8 @@ use Rattle.rules.specs.Services.{atℤ, sameℤ, checkAt, eachAt, checkA
 use Rattle.rules.specs.Services.{curveAt, curveFigures, distributionChecks, distributedAt, distributionFigures, periodisationChecks, periodisationFigures, distributedFits}
 use Rattle.rules.specs.Services.{reconciliationChecks, reconciliationLoss, reconciliationDifferences, amountAt, reconciliationAmounts, invoiceChecks, invoiceFigures}
 use Rattle.rules.specs.Record.{layouts, widthsIn, fieldWidths, totalOf, bodyLength, known, numberOnto, bytesOf, signed, unsigned, cutInto, field, numberAt, signedAt, headingFrom}
-use Rattle.rules.specs.Record.{flowsFrom, readingFrom, neverAsked, recordFrom, kindAt, recordAt, fieldBytes, inWidths, hourFields, weightFields, fieldsOf, recordBytes, nothingYet, H, P, with}
-use Rattle.rules.specs.Record.{due, risesAfter, headingInRange, hourInRange, checks, readAlone, writeVerdict, written}
+use Rattle.rules.specs.Record.{flowsFrom, partyFrom, readingFrom, neverAsked, recordFrom, kindAt, recordAt, fieldBytes, inWidths, hourFields, weightFields, fieldsOf, recordBytes, nothingYet, H, P, with}
+use Rattle.rules.specs.Record.{brpFields, due, likeTheFirst, risesAfter, headingInRange, hourInRange, checks, readAlone, writeVerdict, written}
 use Rattle.rules.specs.PlainRecord.{noSign, nthNoSign, plainHeading, plainFlows, plainReading, plainRecord, standIn, fieldsHold, plainVerdict}
 use Rattle.rules.specs.MonthFile.{recordChecks, isEnd, closed, onward, readOn, readMonth}
 use Rattle.rules.specs.Month.{partyAt, flowsAt, readingAt, priceAt, shareOf, monthW, fixedWh, appliedFlows, appliedWh, curve, distributed, weightOf, S, weightBefore, wholeWeight}
@@ -23,8 +25,8 @@ use Rattle.rules.specs.Month.{estimatedHours, refixedVerdict, hourVerdic
 use Rattle.rules.specs.Plan.{monthCount, monthStart, curveOfMonth, partFrom, partTo, partHours, partWeight, plannedBefore, plannedWhole, plannedReading, planned}
 use Rattle.rules.specs.Plan.{readingHours, hoursVerdict, partyVerdict, partVerdict, weightVerdict, listChecks, spanChecks, handedChecks, planChecks}
 use Rattle.rules.specs.Statement.{digitsIn, decimal, signedDecimal, digitsOfWidth, newline, refusalLine, provisionalEnding, headingText}
-use Rattle.rules.specs.Statement.{headingLine, columnsLine, partyLine, totalLine, statementLines}
-use Rattle.rules.specs.Statement.{judgedStatement, answeredStatement, statement}
+use Rattle.rules.specs.Statement.{headingLine, columnsLine, partyLine, totalLine, brpLine, lineForEach, linesPer, statementLines}
+use Rattle.rules.specs.Statement.{judgedStatement, answeredStatement, statementPer}
 use Rattle.rules.specs.Demands.{exactShare}
 use Rattle.rules.specs.HoursReport.{statusWord, statusesText, seriesText, partsText, allDistributed, hourLine, distanceAfter, distanceAt, smaller, larger, smallest, largest}
 use Rattle.rules.specs.HoursReport.{smallestDistance, largestDistance, fraction, distancesText, distancesLine, reportLines, judgedReport, answeredReport, hoursReport}
@@ -78,11 +80,11 @@ unfolding layouts widthsIn fieldWidths totalOf bodyLength known numberOnto bytes
 records-1 = tt
 
 unfoldable pub records-2 : Unit {0}
-unfolding readingFrom neverAsked recordFrom kindAt recordAt fieldBytes inWidths hourFields weightFields fieldsOf recordBytes nothingYet H P with due risesAfter
+unfolding partyFrom readingFrom neverAsked recordFrom kindAt recordAt fieldBytes inWidths hourFields weightFields fieldsOf recordBytes nothingYet H P with due risesAfter
 records-2 = tt
 
 unfoldable pub records-3 : Unit {0}
-unfolding headingInRange hourInRange checks readAlone writeVerdict written
+unfolding brpFields likeTheFirst headingInRange hourInRange checks readAlone writeVerdict written
 records-3 = tt
 
 unfoldable pub records : Unit {0}
@@ -109,8 +111,16 @@ unfoldable pub months-3 : Unit {0}
 unfolding refixedVerdict hourVerdict curveVerdict weightsFit followsWhole readingChecks readingVerdict periodisedVerdict monthChecks monthVerdict
 months-3 = tt
 
+unfoldable pub brp-figures : Unit {0}
+unfolding brpOf inItsPlace differentOnes brps suppliesFor suppliersOf onlyOf onlyOfℤ sumOfBrp sumOfBrpℤ brpDistributed brpPeriodised brpLoss brpDifference brpMonthDistributed
+brp-figures = tt
+
+unfoldable pub brp-months : Unit {0}
+unfolding brpMonthPeriodised brpMonthLoss brpMonthDifference brpInvoice brpShare
+brp-months = tt
+
 unfoldable pub months : Unit {0}
-unfolding months-1 months-2 months-3
+unfolding months-1 months-2 months-3 brp-figures brp-months
 months = tt
 
 unfoldable pub plans-1 : Unit {0}
@@ -126,11 +136,11 @@ unfolding plans-1 plans-2
 plans = tt
 
 unfoldable pub texts-1 : Unit {0}
-unfolding digitsIn decimal signedDecimal digitsOfWidth newline refusalLine provisionalEnding headingText headingLine columnsLine partyLine totalLine statementLines
+unfolding digitsIn decimal signedDecimal digitsOfWidth newline refusalLine provisionalEnding headingText headingLine columnsLine partyLine totalLine brpLine lineForEach linesPer statementLines
 texts-1 = tt
 
 unfoldable pub texts-2 : Unit {0}
-unfolding judgedStatement answeredStatement statement exactShare
+unfolding judgedStatement answeredStatement statementPer exactShare
 texts-2 = tt
 
 unfoldable pub texts : Unit {0}

@@ -6,8 +6,8 @@ use Prim.Native.Nat.{ℕ, _≤_}
 use native.Mathlib.Omega.{arith}
 use borrow.Author.Tests.{eqb-true, leb-true, leb-false}
 use lib.Dec.{eqb}
-use Rattle.rules.specs.Record.{headingKind, partyKind, fixedHourKind, readingKind, priceKind, refixedHourKind, endKind, longReadingKind}
-use Rattle.rules.specs.Record.{Over, thisMonth, manyMonths, readingKindOf, readingFrom}
+use Rattle.rules.specs.Record.{headingKind, partyKind, fixedHourKind, readingKind, priceKind, refixedHourKind, endKind, longReadingKind, brpPartyKind}
+use Rattle.rules.specs.Record.{Brp, ownBrp, namedBrp, partyKindOf, partyFrom, Over, thisMonth, manyMonths, readingKindOf, readingFrom}
 use Rattle.rules.specs.Record.{Record, heading, party, fixedHour, reading, price, refixedHour, end, layouts, widthsIn, fieldWidths, totalOf, bodyLength, known, kindOf, recordFrom}
 
 -- To unfold this name is to unfold all that a body length is computed by, and no more is meant by it.
@@ -36,19 +36,28 @@ pub each-kind : (Q : ℕ → List ℕ → Type 0) → Entries Q layouts → (k :
 unfolding known bodyLength fieldWidths
 each-kind Q h k e = each-of Q layouts h k (leb-true 1 (totalOf (widthsIn layouts k)) e)
 
--- THE BODY LENGTHS, as 01's table and W3 print them
+-- THE BODY LENGTHS, as 01's table, W3 and W5 print them
+abbrev pub partyLength : Brp → ℕ
+partyLength ownBrp = 21
+partyLength (namedBrp brpGln) = 34
+
 abbrev pub readingLength : Over → ℕ
 readingLength thisMonth = 9
 readingLength (manyMonths before whole) = 25
 
 abbrev pub lengthOf : Record → ℕ
 lengthOf (heading h) = 9
-lengthOf (party p) = 21
+lengthOf (party p) = partyLength (p .brp)
 lengthOf (fixedHour hour f) = 35
 lengthOf (reading r) = readingLength (r .over)
 lengthOf (price hour p) = 6
 lengthOf (refixedHour hour f) = 35
 lengthOf (end count) = 4
+
+party-lengths-are : (brp : Brp) → bodyLength (partyKindOf brp) ≡ partyLength brp
+unfolding body-lengths
+party-lengths-are ownBrp = refl
+party-lengths-are (namedBrp brpGln) = refl
 
 reading-lengths-are : (over : Over) → bodyLength (readingKindOf over) ≡ readingLength over
 unfolding body-lengths
@@ -58,12 +67,17 @@ reading-lengths-are (manyMonths before whole) = refl
 pub lengths-are : (r : Record) → bodyLength (kindOf r) ≡ lengthOf r
 unfolding body-lengths
 lengths-are (heading h) = refl
-lengths-are (party p) = refl
+lengths-are (party p) = party-lengths-are (p .brp)
 lengths-are (fixedHour hour f) = refl
 lengths-are (reading r) = reading-lengths-are (r .over)
 lengths-are (price hour p) = refl
 lengths-are (refixedHour hour f) = refl
 lengths-are (end count) = refl
+
+party-known : (brp : Brp) → known (partyKindOf brp) ≡ true
+unfolding known body-lengths
+party-known ownBrp = refl
+party-known (namedBrp brpGln) = refl
 
 reading-known : (over : Over) → known (readingKindOf over) ≡ true
 unfolding known body-lengths
@@ -73,7 +87,7 @@ reading-known (manyMonths before whole) = refl
 pub kind-known : (r : Record) → known (kindOf r) ≡ true
 unfolding known body-lengths
 kind-known (heading h) = refl
-kind-known (party p) = refl
+kind-known (party p) = party-known (p .brp)
 kind-known (fixedHour hour f) = refl
 kind-known (reading r) = reading-known (r .over)
 kind-known (price hour p) = refl
@@ -82,8 +96,8 @@ kind-known (end count) = refl
 
 -- the record that a known kind and its fields are is of that kind
 own-kinds : (fields : List (List ℕ)) → Entries (λ (k : ℕ) (ws : List ℕ). kindOf (recordFrom k fields) ≡ k) layouts
-unfolding layouts recordFrom readingFrom
-own-kinds fields = (refl, (refl, (refl, (refl, (refl, (refl, (refl, (refl, tt))))))))
+unfolding layouts recordFrom partyFrom readingFrom
+own-kinds fields = (refl, (refl, (refl, (refl, (refl, (refl, (refl, (refl, (refl, tt)))))))))
 
 pub kind-of-record : (k : ℕ) (fields : List (List ℕ)) → known k ≡ true → kindOf (recordFrom k fields) ≡ k
 kind-of-record k fields e = each-kind (λ (k : ℕ) (ws : List ℕ). kindOf (recordFrom k fields) ≡ k) (own-kinds fields) k e
@@ -94,7 +108,7 @@ length-of-record k fields e = ap bodyLength (sym (kind-of-record k fields e)) �
 -- No body is longer than an hour's 35 bytes.
 short-entries : Entries (λ (k : ℕ) (ws : List ℕ). totalOf ws ≤ 35) layouts
 unfolding layouts totalOf
-short-entries = (omega arith, (omega arith, (omega arith, (omega arith, (omega arith, (omega arith, (omega arith, (omega arith, tt))))))))
+short-entries = (omega arith, (omega arith, (omega arith, (omega arith, (omega arith, (omega arith, (omega arith, (omega arith, (omega arith, tt)))))))))
 
 pub body-short : (k : ℕ) → bodyLength k ≤ 35
 unfolding known bodyLength
@@ -110,19 +124,26 @@ Not k other = k ≡ other → ⊥
 
 abbrev LastKind : ℕ → List ℕ → Type 0
 LastKind k ws =
-    Not k headingKind → Not k partyKind → Not k fixedHourKind → Not k readingKind → Not k priceKind → Not k refixedHourKind → Not k longReadingKind → k ≡ endKind
+    Not k headingKind → Not k partyKind → Not k fixedHourKind → Not k readingKind → Not k priceKind → Not k refixedHourKind → Not k longReadingKind → Not k brpPartyKind
+    → k ≡ endKind
 
 last-kinds : Entries LastKind layouts
 unfolding layouts
 last-kinds = (
-  λ a b c d e f g. absurd (a refl),
+  λ a b c d e f g h. absurd (a refl),
   (
-    λ a b c d e f g. absurd (b refl),
+    λ a b c d e f g h. absurd (b refl),
     (
-      λ a b c d e f g. absurd (c refl),
+      λ a b c d e f g h. absurd (c refl),
       (
-        λ a b c d e f g. absurd (d refl),
-        (λ a b c d e f g. absurd (e refl), (λ a b c d e f g. absurd (f refl), (λ a b c d e f g. refl, (λ a b c d e f g. absurd (g refl), tt)))),
+        λ a b c d e f g h. absurd (d refl),
+        (
+          λ a b c d e f g h. absurd (e refl),
+          (
+            λ a b c d e f g h. absurd (f refl),
+            (λ a b c d e f g h. refl, (λ a b c d e f g h. absurd (g refl), (λ a b c d e f g h. absurd (h refl), tt))),
+          ),
+        ),
       ),
     ),
   ),
@@ -131,16 +152,19 @@ last-kinds = (
 -- the same, as a match on a kind leaves it
 abbrev pub NoneOfTheOthers : ℕ → Type 0
 NoneOfTheOthers k =
-    ((((((Unit {0} × Not k headingKind) × Not k partyKind) × Not k fixedHourKind) × Not k readingKind) × Not k priceKind) × Not k refixedHourKind) × Not k longReadingKind
+    (((((((Unit {0} × Not k headingKind) × Not k partyKind) × Not k fixedHourKind) × Not k readingKind) × Not k priceKind) × Not k refixedHourKind) × Not k longReadingKind)
+    × Not k brpPartyKind
 
 pub last-kind : (k : ℕ) → known k ≡ true → NoneOfTheOthers k → k ≡ endKind
 last-kind k e n =
-    each-kind LastKind last-kinds k e (n .0 .0 .0 .0 .0 .0 .1) (n .0 .0 .0 .0 .0 .1) (n .0 .0 .0 .0 .1) (n .0 .0 .0 .1) (n .0 .0 .1) (n .0 .1) (n .1)
+    each-kind LastKind last-kinds k e (n .0 .0 .0 .0 .0 .0 .0 .1) (n .0 .0 .0 .0 .0 .0 .1) (n .0 .0 .0 .0 .0 .1) (n .0 .0 .0 .0 .1) (n .0 .0 .0 .1) (n .0 .0 .1)
+    (n .0 .1)
+    (n .1)
 
 -- every kind is one byte
 byte-entries : Entries (λ (k : ℕ) (ws : List ℕ). k ≤ 255) layouts
 unfolding layouts
-byte-entries = (omega arith, (omega arith, (omega arith, (omega arith, (omega arith, (omega arith, (omega arith, (omega arith, tt))))))))
+byte-entries = (omega arith, (omega arith, (omega arith, (omega arith, (omega arith, (omega arith, (omega arith, (omega arith, (omega arith, tt)))))))))
 
 pub kind-is-a-byte : (k : ℕ) → known k ≡ true → k ≤ 255
 kind-is-a-byte k e = each-kind (λ (k : ℕ) (ws : List ℕ). k ≤ 255) byte-entries k e

@@ -12,11 +12,11 @@ use lib.IntN.{ℤ}
 use lib.ListN.{length, length-append}
 use Rattle.rules.specs.Flows.{Flows}
 use Rattle.rules.specs.Limits.{greatestShare, greatestEnergy}
-use Rattle.rules.specs.MonthFile.{MonthFile, nothingYet, H, P, due, risesAfter, with, isEnd}
-use Rattle.rules.specs.Record.{Party, Reading, Record, heading, party, fixedHour, reading, price, refixedHour, end, inFile, headingInRange, hourInRange, checks}
+use Rattle.rules.specs.MonthFile.{MonthFile, nothingYet, H, P, due, likeTheFirst, risesAfter, with, isEnd}
+use Rattle.rules.specs.Record.{partyKindOf, Party, Reading, Record, heading, party, fixedHour, reading, price, refixedHour, end, inFile, headingInRange, hourInRange, checks}
 use Rattle.rules.specs.ReadingRefused.{Passes, AllPass, withAll}
 use Rattle.rules.specs.Refusals.{unless, andThen, first}
-use Rattle.rules.specs.WellFormed.{Every, numbered, asParty, asReading, recordsOf, Rising, PartyRight, FlowsRight, PriceRight, ReadingRight, ReadingHeld, Whole}
+use Rattle.rules.specs.WellFormed.{Every, numbered, asParty, asReading, recordsOf, Rising, SameKind, OneKind, PartyRight, FlowsRight, PriceRight, ReadingRight, ReadingHeld, Whole}
 use Rattle.rules.proofs.Places.{parties-due, fixed-due, no-readings}
 use Rattle.rules.proofs.Refusals.{accepted-exactly, unless-exactly}
 use Rattle.rules.proofs.Whole.{true-not-false, Sound, nothing-is-sound, heading-facts, both-pass, rises-strictly, step}
@@ -93,7 +93,8 @@ module _ (m : MonthFile) where
   unfolding recordsOf with due isEnd H P
   one-more s some (heading h) go d = absurd (omega (arith, eqb-true (m .heading .hours) 0 d))
   one-more s some (party p) go d =
-      let none = parties-due (s .counts) (ltb-true (length (m .parties)) (P m) d) in
+      let tests = both-pass (ltb (length (m .parties)) (P m)) (likeTheFirst (m .parties) p) d in
+      let none = parties-due (s .counts) (ltb-true (length (m .parties)) (P m) (tests .0)) in
       ap (λ (t : List Record). heading (m .heading) ∷ t)
       (at-its-end (numbered asParty 0 (m .parties)) _ from-fixed (party p) (next-numbered asParty (m .parties) p {k = length (m .parties)} refl)
       (no-fixed (none .1) (none .2) (none .3) (none .4)))
@@ -212,6 +213,12 @@ rises-there [] x later h = refl
 rises-there (q ∷ []) x later h = rises-strictly (q .gln) (x .gln) .1 (h .0 .0)
 rises-there (q ∷ (q′ ∷ done)) x later h = rises-there (q′ ∷ done) x later (h .1)
 
+-- a party after others of one kind is like the first
+alike-there : (done : List Party) (x : Party) (later : List Party) → OneKind (done ++ (x ∷ later)) → likeTheFirst done x ≡ true
+unfolding likeTheFirst
+alike-there [] x later k = refl
+alike-there (q ∷ done) x later k = eq-eqb (partyKindOf (q .brp)) (partyKindOf (x .brp)) (there (SameKind q) done x later k)
+
 either-way : (a : Bool) {b : Bool} → b ≡ true → a || b ≡ true
 either-way true e = refl
 either-way false e = e
@@ -241,11 +248,12 @@ module _ (m : MonthFile) (w : Whole m) (held : Every ReadingHeld (m .readings)) 
   unfolding isEnd due P checks first andThen unless
   party-passes done x later e n =
       let right : PartyRight x = there PartyRight done x later (subst (Every PartyRight) e (w .parties)) in
+      let like : likeTheFirst done x ≡ true = alike-there done x later (subst OneKind e (w .one-kind)) in
       let rises-here : risesAfter done x ≡ true = rises-there done x later (subst Rising e (w .rising)) in
       record {
         not-the-end = refl;
-        is-due = lt-ltb (length done) (P m) (not-the-last done x later e (w .all-parties));
-        none-refuses = accepted-exactly (checks (inFile (to-parties done) n) (party x)) .0 (rw (le-leb (x .share) greatestShare (right .0), right .1, rises-here));
+        is-due = rw (lt-ltb (length done) (P m) (not-the-last done x later e (w .all-parties)), like);
+        none-refuses = accepted-exactly (checks (inFile (to-parties done) n) (party x)) .0 (rw (le-leb (x .share) greatestShare (right .0), right .1, right .2, rises-here));
         held = tt;
       }
 

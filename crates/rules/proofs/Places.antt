@@ -1,5 +1,5 @@
 -- Where each record of a file stands: a file that is read has its heading at 0, then the parties, the fixed hours, the refixed hours and the prices, each kind
--- at a fixed distance, and the readings, each behind the bytes of those before it. What has been read so far takes up as many bytes as its records have.
+-- at a fixed distance, and the readings, each behind the bytes of those before it; the parties likewise, whose records are all of one length (W5). What has been read so far takes up as many bytes as its records have.
 use mathlib.Core.Bool.{Bool, true, false, _&&_, _||_}
 use mathlib.Core.List.{List, [], _∷_, _++_}
 use mathlib.Core.Logic.{_⊎_, inl, inr, ⊎-elim}
@@ -14,17 +14,17 @@ use lib.ListN.{length, getD, drop, length-append, length-drop, List·getD-append
 use lib.Seq.{drop-drop, getD-at}
 use Rattle.rules.specs.Accepted.{NoneRefuses}
 use Rattle.rules.specs.Flows.{Flows}
-use Rattle.rules.specs.MonthFile.{MonthFile, nothingYet, H, P, due, recordChecks, with, isEnd, closed, readOn, readMonth}
+use Rattle.rules.specs.MonthFile.{MonthFile, nothingYet, H, P, due, likeTheFirst, recordChecks, with, isEnd, closed, readOn, readMonth}
 use Rattle.rules.specs.Record.{Heading, Party, thisMonth, Reading, Record, heading, party, fixedHour, reading, price, refixedHour, end, bodyLength, known, fieldWidths}
 use Rattle.rules.specs.Record.{cutInto, kindAt, recordAt, inFile, headingInRange, checks}
 use Rattle.rules.specs.Refusals.{given, first}
 use Rattle.rules.specs.Setting.{Setting}
-use Rattle.rules.specs.WellFormed.{asParty, asReading}
+use Rattle.rules.specs.WellFormed.{Every, asParty, asReading}
 use Rattle.rules.specs.Words.{at, sum}
 use Rattle.rules.proofs.Sums.{sum-cong}
 use Rattle.rules.proofs.Whole.{Counts, Sound, before-the-heading, both-pass, heading-facts, step, nothing-is-sound, went-on, closed-gives, of-the-right-length}
 use Rattle.rules.proofs.Refusals.{accepted-exactly, unless-exactly, given-not-refusal}
-pub use Rattle.rules.proofs.EachKind.{lengthOf, readingLength, length-of-record}
+pub use Rattle.rules.proofs.EachKind.{lengthOf, partyLength, readingLength, length-of-record}
 
 -- a record of the file that stands at an offset
 pub record Standing (file : List ℕ) (offset : ℕ) (r : Record) : Type 0 where
@@ -62,54 +62,65 @@ at-its-place {A} {file} {offset} {place} {hour} there mk {k} due {x} here =
     subst (λ (o : ℕ). Standing file o (mk k x)) there (subst (λ (t : ℕ). Standing file offset (mk t x)) (eqb-true hour k due) here)
 
 -- the offsets, in a file of so many parties, hours and refixed hours
-abbrev pub partyOffset : ℕ → ℕ
-partyOffset k = 10 + 22 * k
+-- A record's bytes with its kind, by what is in it: of a party with a BRP of its own more than of one without, of a reading over months more than of one in this
+-- month. Records of a list stand one behind the other: the k-th behind the bytes of those before it.
+unfoldable pub sizesBefore : {A : Type 0} → (A → Record) → List A → ℕ → ℕ
+sizesBefore make [] k = 0
+sizesBefore make (x ∷ l) zero = 0
+sizesBefore make (x ∷ l) (suc k) = (1 + lengthOf (make x)) + sizesBefore make l k
 
-abbrev pub fixedOffset : ℕ → ℕ → ℕ
-fixedOffset parties k = 10 + 22 * parties + 36 * k
+abbrev pub allSizes : {A : Type 0} → (A → Record) → List A → ℕ
+allSizes make l = sizesBefore make l (length l)
 
-abbrev pub refixedOffset : ℕ → ℕ → ℕ → ℕ
-refixedOffset parties hours k = 10 + 22 * parties + 36 * hours + 36 * k
+abbrev pub partyOffset : List Party → ℕ → ℕ
+partyOffset parties k = 10 + sizesBefore party parties k
 
-abbrev pub priceOffset : ℕ → ℕ → ℕ → ℕ → ℕ
-priceOffset parties hours refixed k = 10 + 22 * parties + 36 * hours + 36 * refixed + 7 * k
+abbrev pub fixedOffset : List Party → ℕ → ℕ
+fixedOffset parties k = 10 + allSizes party parties + 36 * k
 
--- a reading's bytes with its kind, of one over months more than of one in this month; and those of the readings before the k-th
-unfoldable pub readingSize : Reading → ℕ
-readingSize r = 1 + readingLength (r .over)
+abbrev pub refixedOffset : List Party → ℕ → ℕ → ℕ
+refixedOffset parties hours k = 10 + allSizes party parties + 36 * hours + 36 * k
 
-unfoldable pub sizesBefore : List Reading → ℕ → ℕ
-sizesBefore l k = sum k (λ j. readingSize (getD l j (record { party = 0; a = 0; b = 0; e = 0; over = thisMonth })))
+abbrev pub priceOffset : List Party → ℕ → ℕ → ℕ → ℕ
+priceOffset parties hours refixed k = 10 + allSizes party parties + 36 * hours + 36 * refixed + 7 * k
 
-abbrev pub readingOffset : ℕ → ℕ → ℕ → List Reading → ℕ → ℕ
-readingOffset parties hours refixed readings k = 10 + 22 * parties + 36 * hours + 36 * refixed + 7 * hours + sizesBefore readings k
+abbrev pub readingOffset : List Party → ℕ → ℕ → List Reading → ℕ → ℕ
+readingOffset parties hours refixed readings k = 10 + allSizes party parties + 36 * hours + 36 * refixed + 7 * hours + sizesBefore reading readings k
 
-no-sizes : (l : List Reading) → length l ≡ 0 → sizesBefore l (length l) ≡ 0
-unfolding sizesBefore sum
-no-sizes l e = rw e
+no-sizes : {A : Type 0} (make : A → Record) (l : List A) → length l ≡ 0 → allSizes make l ≡ 0
+unfolding sizesBefore
+no-sizes make [] e = refl
+no-sizes make (x ∷ l) e = absurd (omega arith)
 
-module _ (l : List Reading) (x : Reading) where
-  same-sizes : (k : ℕ) → k ≤ length l → sizesBefore l k ≡ sizesBefore (l ++ (x ∷ [])) k
-  unfolding sizesBefore
-  same-sizes k b = sum-cong k (λ j c. ap readingSize (sym (List·getD-append l (x ∷ []) _ j (omega arith))))
+same-sizes : {A : Type 0} (make : A → Record) (l : List A) (x : A) (k : ℕ) → k ≤ length l → sizesBefore make l k ≡ sizesBefore make (l ++ (x ∷ [])) k
+unfolding sizesBefore
+same-sizes make [] x zero b = refl
+same-sizes make [] x (suc k) b = absurd (omega arith)
+same-sizes make (y ∷ l) x zero b = refl
+same-sizes make (y ∷ l) x (suc k) b = ap (λ (n : ℕ). (1 + lengthOf (make y)) + n) (same-sizes make l x k (omega arith))
 
-  pub one-size-more : sizesBefore (l ++ (x ∷ [])) (length (l ++ (x ∷ []))) ≡ sizesBefore l (length l) + readingSize x
-  unfolding sizesBefore sum
-  one-size-more =
-      let longer : length (l ++ (x ∷ [])) ≡ suc (length l) = length-append l (x ∷ []) ∙ omega arith in
-      let until : sizesBefore l (length l) ≡ sizesBefore (l ++ (x ∷ [])) (length l) = same-sizes (length l) (omega arith) in
-      rw (longer, getD-at l x [] _ (length l) refl) (omega arith)
+pub one-size-more : {A : Type 0} (make : A → Record) (l : List A) (x : A) → allSizes make (l ++ (x ∷ [])) ≡ allSizes make l + (1 + lengthOf (make x))
+unfolding sizesBefore
+one-size-more make [] x = omega arith
+one-size-more make (y ∷ l) x = omega (arith, one-size-more make l x)
+
+-- records of one length: the k-th stands behind k times so many bytes
+pub equal-sizes : {A : Type 0} (make : A → Record) (size : ℕ) (l : List A) → Every (λ (x : A). 1 + lengthOf (make x) ≡ size) l → (k : ℕ) → k ≤ length l → sizesBefore make l k ≡ size * k
+unfolding sizesBefore
+equal-sizes make size [] same k b = let none : k ≡ 0 = omega arith in rw none (omega arith)
+equal-sizes make size (x ∷ l) same zero b = omega arith
+equal-sizes make size (x ∷ l) same (suc k) b = omega (arith, same .0, equal-sizes make size l (same .1) k (omega arith))
 
 -- What has been read so far of a file, up to an offset.
 pub record Placed (file : List ℕ) (m : MonthFile) (offset : ℕ) : Type 0 where
   pub at-start : H m ≡ 0 → offset ≡ 0
-  pub so-far : 0 < H m → offset ≡ 10 + 22 * length (m .parties) + 36 * length (m .fixed) + 36 * length (m .refixed) + 7 * length (m .prices) + sizesBefore (m .readings) (length (m .readings))
+  pub so-far : 0 < H m → offset ≡ 10 + allSizes party (m .parties) + 36 * length (m .fixed) + 36 * length (m .refixed) + 7 * length (m .prices) + allSizes reading (m .readings)
   pub head : 0 < H m → Standing file 0 (heading (m .heading))
-  pub parties : Row file partyOffset asParty (m .parties)
-  pub fixed : Row file (fixedOffset (P m)) fixedHour (m .fixed)
-  pub refixed : Row file (refixedOffset (P m) (H m)) refixedHour (m .refixed)
-  pub prices : Row file (priceOffset (P m) (H m) (length (m .refixed))) price (m .prices)
-  pub readings : Row file (readingOffset (P m) (H m) (length (m .refixed)) (m .readings)) asReading (m .readings)
+  pub parties : Row file (partyOffset (m .parties)) asParty (m .parties)
+  pub fixed : Row file (fixedOffset (m .parties)) fixedHour (m .fixed)
+  pub refixed : Row file (refixedOffset (m .parties) (H m)) refixedHour (m .refixed)
+  pub prices : Row file (priceOffset (m .parties) (H m) (length (m .refixed))) price (m .prices)
+  pub readings : Row file (readingOffset (m .parties) (H m) (length (m .refixed)) (m .readings)) asReading (m .readings)
 
 nothing-is-placed : (file : List ℕ) → Placed file nothingYet 0
 unfolding nothingYet H P
@@ -118,11 +129,11 @@ nothing-is-placed file =
       at-start = λ e. refl;
       so-far = λ b. absurd (omega arith);
       head = λ b. absurd (omega arith);
-      parties = row-none file partyOffset asParty [] refl;
-      fixed = row-none file (fixedOffset 0) fixedHour [] refl;
-      refixed = row-none file (refixedOffset 0 0) refixedHour [] refl;
-      prices = row-none file (priceOffset 0 0 0) price [] refl;
-      readings = row-none file (readingOffset 0 0 0 []) asReading [] refl;
+      parties = row-none file (partyOffset []) asParty [] refl;
+      fixed = row-none file (fixedOffset []) fixedHour [] refl;
+      refixed = row-none file (refixedOffset [] 0) refixedHour [] refl;
+      prices = row-none file (priceOffset [] 0 0) price [] refl;
+      readings = row-none file (readingOffset [] 0 0 []) asReading [] refl;
     }
 
 one-longer : {A : Type 0} (l : List A) (x : A) → length (l ++ (x ∷ [])) ≡ length l + 1
@@ -166,29 +177,35 @@ module _ (file : List ℕ) (m : MonthFile) (s : Sound m) (offset : ℕ) (p : Pla
       let start : offset ≡ 0 = p .at-start (eqb-true (m .heading .hours) 0 d) in
       record {
         at-start = λ e. absurd (omega arith);
-        so-far = λ b. omega (arith, none .0, none .1, none .2, none .3, no-sizes (m .readings) (none .4));
+        so-far = λ b. omega (arith, no-sizes party (m .parties) (none .0), none .1, none .2, none .3, no-sizes reading (m .readings) (none .4));
         head = λ b. subst (λ (o : ℕ). Standing file o (heading h)) start here;
-        parties = row-none file partyOffset asParty (m .parties) (none .0);
-        fixed = row-none file (fixedOffset (h .parties)) fixedHour (m .fixed) (none .1);
-        refixed = row-none file (refixedOffset (h .parties) (h .hours)) refixedHour (m .refixed) (none .2);
-        prices = row-none file (priceOffset (h .parties) (h .hours) (length (m .refixed))) price (m .prices) (none .3);
-        readings = row-none file (readingOffset (h .parties) (h .hours) (length (m .refixed)) (m .readings)) asReading (m .readings) (none .4);
+        parties = row-none file (partyOffset (m .parties)) asParty (m .parties) (none .0);
+        fixed = row-none file (fixedOffset (m .parties)) fixedHour (m .fixed) (none .1);
+        refixed = row-none file (refixedOffset (m .parties) (h .hours)) refixedHour (m .refixed) (none .2);
+        prices = row-none file (priceOffset (m .parties) (h .hours) (length (m .refixed))) price (m .prices) (none .3);
+        readings = row-none file (readingOffset (m .parties) (h .hours) (length (m .refixed)) (m .readings)) asReading (m .readings) (none .4);
       }
 
-  place-party : (x : Party) → due m (party x) ≡ true → Standing file offset (party x) → Placed file (with m (party x)) (offset + 22)
+  place-party : (x : Party) → due m (party x) ≡ true → Standing file offset (party x) → Placed file (with m (party x)) (offset + (1 + lengthOf (party x)))
   unfolding due with H P
   place-party x d here =
-      let none = parties-due (s .counts) (ltb-true (length (m .parties)) (P m) d) in
-      let there : offset ≡ partyOffset (length (m .parties)) = omega (arith, p .so-far (none .0), none .1, none .2, none .3, no-sizes (m .readings) (none .4)) in
+      let tests = both-pass (ltb (length (m .parties)) (P m)) (likeTheFirst (m .parties) x) d in
+      let none = parties-due (s .counts) (ltb-true (length (m .parties)) (P m) (tests .0)) in
+      let there : offset ≡ partyOffset (m .parties) (length (m .parties)) =
+      omega (arith, p .so-far (none .0), none .1, none .2, none .3, no-sizes reading (m .readings) (none .4)) in
+      let more : List Party = m .parties ++ (x ∷ []) in
+      let moved : (k : ℕ) → k ≤ length (m .parties) → partyOffset (m .parties) k ≡ partyOffset more k = λ k b. omega (arith, same-sizes party (m .parties) x k b) in
       record {
         at-start = λ e. absurd (omega (arith, none .0));
-        so-far = λ b. omega (arith, one-longer (m .parties) x, p .so-far b);
+        so-far = λ b. omega (arith, one-size-more party (m .parties) x, p .so-far b);
         head = p .head;
-        parties = row-more file partyOffset asParty (m .parties) x (p .parties) (subst (λ (o : ℕ). Standing file o (party x)) there here);
-        fixed = p .fixed;
-        refixed = p .refixed;
-        prices = p .prices;
-        readings = p .readings;
+        parties =
+            row-more file (partyOffset more) asParty (m .parties) x (row-same file asParty (m .parties) (λ k b. moved k (omega arith)) (p .parties))
+            (subst (λ (o : ℕ). Standing file o (party x)) (there ∙ moved (length (m .parties)) (omega arith)) here);
+        fixed = row-none file (fixedOffset more) fixedHour (m .fixed) (none .1);
+        refixed = row-none file (refixedOffset more (H m)) refixedHour (m .refixed) (none .2);
+        prices = row-none file (priceOffset more (H m) (length (m .refixed))) price (m .prices) (none .3);
+        readings = row-none file (readingOffset more (H m) (length (m .refixed)) (m .readings)) asReading (m .readings) (none .4);
       }
 
   place-fixed : (hour : ℕ) (x : Flows) → due m (fixedHour hour x) ≡ true → Standing file offset (fixedHour hour x) → Placed file (with m (fixedHour hour x)) (offset + 36)
@@ -199,13 +216,13 @@ module _ (file : List ℕ) (m : MonthFile) (s : Sound m) (offset : ℕ) (p : Pla
       let all : length (m .parties) ≡ P m = eqb-true (length (m .parties)) (P m) (inner .0) in
       let more : length (m .fixed) < H m = ltb-true (length (m .fixed)) (H m) (inner .1) in
       let none = fixed-due (s .counts) more in
-      let there : offset ≡ fixedOffset (P m) (length (m .fixed)) = omega (arith, p .so-far (omega arith), none .0, none .1, no-sizes (m .readings) (none .2)) in
+      let there : offset ≡ fixedOffset (m .parties) (length (m .fixed)) = omega (arith, p .so-far (omega arith), none .0, none .1, no-sizes reading (m .readings) (none .2)) in
       record {
         at-start = λ e. absurd (omega arith);
         so-far = λ b. omega (arith, one-longer (m .fixed) x, p .so-far b);
         head = p .head;
         parties = p .parties;
-        fixed = row-more file (fixedOffset (P m)) fixedHour (m .fixed) x (p .fixed) (at-its-place there fixedHour (outer .1) here);
+        fixed = row-more file (fixedOffset (m .parties)) fixedHour (m .fixed) x (p .fixed) (at-its-place there fixedHour (outer .1) here);
         refixed = p .refixed;
         prices = p .prices;
         readings = p .readings;
@@ -222,16 +239,16 @@ module _ (file : List ℕ) (m : MonthFile) (s : Sound m) (offset : ℕ) (p : Pla
       let no-prices : length (m .prices) ≡ 0 = eqb-true (length (m .prices)) 0 (middle .1) in
       let no-more : length (m .readings) ≡ 0 = no-readings (s .counts) (omega arith) in
       let everyone : length (m .parties) ≡ P m = all-parties (s .counts) all (omega arith) in
-      let there : offset ≡ refixedOffset (P m) (H m) (length (m .refixed)) = omega (arith, p .so-far (omega arith), no-sizes (m .readings) no-more) in
+      let there : offset ≡ refixedOffset (m .parties) (H m) (length (m .refixed)) = omega (arith, p .so-far (omega arith), no-sizes reading (m .readings) no-more) in
       record {
         at-start = λ e. absurd (omega arith);
         so-far = λ b. omega (arith, one-longer (m .refixed) x, p .so-far b);
         head = p .head;
         parties = p .parties;
         fixed = p .fixed;
-        refixed = row-more file (refixedOffset (P m) (H m)) refixedHour (m .refixed) x (p .refixed) (at-its-place there refixedHour (outer .1) here);
-        prices = row-none file (priceOffset (P m) (H m) (length (m .refixed ++ (x ∷ [])))) price (m .prices) no-prices;
-        readings = row-none file (readingOffset (P m) (H m) (length (m .refixed ++ (x ∷ []))) (m .readings)) asReading (m .readings) no-more;
+        refixed = row-more file (refixedOffset (m .parties) (H m)) refixedHour (m .refixed) x (p .refixed) (at-its-place there refixedHour (outer .1) here);
+        prices = row-none file (priceOffset (m .parties) (H m) (length (m .refixed ++ (x ∷ [])))) price (m .prices) no-prices;
+        readings = row-none file (readingOffset (m .parties) (H m) (length (m .refixed ++ (x ∷ []))) (m .readings)) asReading (m .readings) no-more;
       }
 
   place-price : (hour : ℕ) (x : ℤ) → due m (price hour x) ≡ true → Standing file offset (price hour x) → Placed file (with m (price hour x)) (offset + 7)
@@ -244,7 +261,7 @@ module _ (file : List ℕ) (m : MonthFile) (s : Sound m) (offset : ℕ) (p : Pla
       let more : length (m .prices) < H m = ltb-true (length (m .prices)) (H m) (middle .1) in
       let no-more : length (m .readings) ≡ 0 = no-readings (s .counts) more in
       let everyone : length (m .parties) ≡ P m = all-parties (s .counts) all (omega arith) in
-      let there : offset ≡ priceOffset (P m) (H m) (length (m .refixed)) (length (m .prices)) = omega (arith, p .so-far (omega arith), no-sizes (m .readings) no-more) in
+      let there : offset ≡ priceOffset (m .parties) (H m) (length (m .refixed)) (length (m .prices)) = omega (arith, p .so-far (omega arith), no-sizes reading (m .readings) no-more) in
       record {
         at-start = λ e. absurd (omega arith);
         so-far = λ b. omega (arith, one-longer (m .prices) x, p .so-far b);
@@ -252,32 +269,32 @@ module _ (file : List ℕ) (m : MonthFile) (s : Sound m) (offset : ℕ) (p : Pla
         parties = p .parties;
         fixed = p .fixed;
         refixed = p .refixed;
-        prices = row-more file (priceOffset (P m) (H m) (length (m .refixed))) price (m .prices) x (p .prices) (at-its-place there price (outer .1) here);
+        prices = row-more file (priceOffset (m .parties) (H m) (length (m .refixed))) price (m .prices) x (p .prices) (at-its-place there price (outer .1) here);
         readings = p .readings;
       }
 
   place-reading : (x : Reading) → due m (reading x) ≡ true → Standing file offset (reading x) → Placed file (with m (reading x)) (offset + (1 + lengthOf (reading x)))
-  unfolding due with H P readingSize
+  unfolding due with H P
   place-reading x d here =
       let tests = both-pass (leb 1 (H m)) (eqb (length (m .prices)) (H m)) d in
       let some : 1 ≤ H m = leb-true 1 (H m) (tests .0) in
       let priced : length (m .prices) ≡ H m = eqb-true (length (m .prices)) (H m) (tests .1) in
       let all : length (m .fixed) ≡ H m = all-fixed (s .counts) priced some in
       let everyone : length (m .parties) ≡ P m = all-parties (s .counts) all some in
-      let there : offset ≡ readingOffset (P m) (H m) (length (m .refixed)) (m .readings) (length (m .readings)) = omega (arith, p .so-far some) in
+      let there : offset ≡ readingOffset (m .parties) (H m) (length (m .refixed)) (m .readings) (length (m .readings)) = omega (arith, p .so-far some) in
       let moved : (k : ℕ) → k ≤ length (m .readings)
-      → readingOffset (P m) (H m) (length (m .refixed)) (m .readings) k ≡ readingOffset (P m) (H m) (length (m .refixed)) (m .readings ++ (x ∷ [])) k =
-      λ k b. omega (arith, same-sizes (m .readings) x k b) in
+      → readingOffset (m .parties) (H m) (length (m .refixed)) (m .readings) k ≡ readingOffset (m .parties) (H m) (length (m .refixed)) (m .readings ++ (x ∷ [])) k =
+      λ k b. omega (arith, same-sizes reading (m .readings) x k b) in
       record {
         at-start = λ e. absurd (omega arith);
-        so-far = λ b. omega (arith, one-size-more (m .readings) x, p .so-far b);
+        so-far = λ b. omega (arith, one-size-more reading (m .readings) x, p .so-far b);
         head = p .head;
         parties = p .parties;
         fixed = p .fixed;
         refixed = p .refixed;
         prices = p .prices;
         readings =
-            row-more file (readingOffset (P m) (H m) (length (m .refixed)) (m .readings ++ (x ∷ []))) asReading (m .readings) x
+            row-more file (readingOffset (m .parties) (H m) (length (m .refixed)) (m .readings ++ (x ∷ []))) asReading (m .readings) x
             (row-same file asReading (m .readings) (λ k b. moved k (omega arith)) (p .readings))
             (subst (λ (o : ℕ). Standing file o (reading x)) (there ∙ moved (length (m .readings)) (omega arith)) here);
       }

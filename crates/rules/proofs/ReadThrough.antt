@@ -18,7 +18,7 @@ use Rattle.rules.specs.Gln.{validGln}
 use Rattle.rules.specs.Limits.{mostHours, mostParties, greatestShare, greatestEnergy, greatestPrice, longestFile}
 use Rattle.rules.specs.MonthFile.{MonthFile, nothingYet, H, P, with, due, recordChecks, isEnd, closed, onward, readOn, readMonth}
 use Rattle.rules.specs.Record.{Record, heading, party, fixedHour, reading, price, refixedHour, end, bodyLength, known, kindAt, kindOf, recordAt, inWidths, fieldWidths, fieldsOf}
-use Rattle.rules.specs.Record.{recordBytes, inFile, alone, headingInRange, hourInRange, checks, readAlone}
+use Rattle.rules.specs.Record.{brpGln, recordBytes, inFile, alone, headingInRange, hourInRange, checks, readAlone}
 use Rattle.rules.specs.ReadingRefused.{Passes, AllPass, withAll}
 use Rattle.rules.specs.Refusals.{Refusal, fileFault, Verdict, accepted, refused, Answer, given, refusal, unless, andThen, first, answer}
 use Rattle.rules.specs.Setting.{Setting}
@@ -54,7 +54,8 @@ module _ (m : MonthFile) (s : Sound m) where
   alone-too n (party p) c =
       let share : leb (p .share) greatestShare ≡ true = unless-exactly (leb (p .share) greatestShare) _ _ .0 (c .0) in
       let valid : validGln (p .gln) ≡ true = unless-exactly (validGln (p .gln)) _ _ .0 (c .1 .0) in
-      accepted-exactly (checks alone (party p)) .0 (rw (share, valid))
+      let brp : validGln (brpGln p) ≡ true = unless-exactly (validGln (brpGln p)) _ _ .0 (c .1 .1 .0) in
+      accepted-exactly (checks alone (party p)) .0 (rw (share, valid, brp))
   alone-too n (fixedHour hour f) c =
       accepted-exactly (checks alone (fixedHour hour f)) .0 (rw (hour-alone hour f (unless-exactly (hourInRange (H m) hour f) _ _ .0 (c .0))))
   alone-too n (refixedHour hour f) c =

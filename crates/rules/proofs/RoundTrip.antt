@@ -17,10 +17,10 @@ use Rattle.rules.specs.Accepted.{NoneRefuses}
 use Rattle.rules.specs.Flows.{Flows, flowsInRange, silentIsZero}
 use Rattle.rules.specs.Gln.{validGln}
 use Rattle.rules.specs.Limits.{estimated, mostHours, mostParties, greatestShare, greatestFlow, greatestEnergy, greatestPrice, glnDigits}
-use Rattle.rules.specs.Record.{Heading, Over, thisMonth, manyMonths, Reading, Record, heading, party, fixedHour, reading, price, refixedHour, end, hourWidths, layouts}
-use Rattle.rules.specs.Record.{widthsIn, fieldWidths, readingKindOf, weightFields}
+use Rattle.rules.specs.Record.{Brp, ownBrp, namedBrp, Heading, Party, Over, thisMonth, manyMonths, Reading, Record, heading, party, fixedHour, reading, price, refixedHour, end, hourWidths, layouts}
+use Rattle.rules.specs.Record.{brpGlnOf, brpGln, widthsIn, fieldWidths, partyKindOf, brpFields, readingKindOf, weightFields}
 use Rattle.rules.specs.Record.{totalOf, bodyLength, known, numberOnto, bytesOf, signed, unsigned, cutInto, field, numberAt, signedAt, headingFrom, flowsFrom}
-use Rattle.rules.specs.Record.{readingFrom, recordFrom, kindAt, recordAt, number, fieldBytes, inWidths, kindOf, hourFields}
+use Rattle.rules.specs.Record.{partyFrom, readingFrom, recordFrom, kindAt, recordAt, number, digits, fieldBytes, inWidths, kindOf, hourFields}
 use Rattle.rules.specs.Record.{fieldsOf, recordBytes, alone, headingInRange, hourInRange, checks, readAlone}
 use Rattle.rules.specs.Refusals.{Verdict, accepted, refused, given, unless, andThen, first, answer}
 use Rattle.rules.specs.Words.{at, withinℤ, joined}
@@ -177,13 +177,23 @@ valid-length gln e = eqb-true (length gln) glnDigits (both-true _ _ (both-true _
 pub none-refuses : (r : Record) → first (checks alone r) ≡ accepted → NoneRefuses (checks alone r)
 none-refuses r e = accepted-exactly (checks alone r) .0 e
 
-pub valid-gln : (gln : List ℕ) (share : ℕ) → NoneRefuses (checks alone (party (record { gln = gln; share = share }))) → validGln gln ≡ true
+pub valid-gln : (p : Party) → NoneRefuses (checks alone (party p)) → validGln (p .gln) ≡ true
 unfolding checks
-valid-gln gln share c = unless-exactly (validGln gln) _ _ .0 (c .1 .0)
+valid-gln p c = unless-exactly (validGln (p .gln)) _ _ .0 (c .1 .0)
+
+pub valid-brp-gln : (p : Party) → NoneRefuses (checks alone (party p)) → validGln (brpGln p) ≡ true
+unfolding checks
+valid-brp-gln p c = unless-exactly (validGln (brpGln p)) _ _ .0 (c .1 .1 .0)
 
 pub price-range : (hour : ℕ) (p : ℤ) → NoneRefuses (checks alone (price hour p)) → ltb hour mostHours && withinℤ greatestPrice p ≡ true
 unfolding checks
 price-range hour p c = unless-exactly (ltb hour mostHours && withinℤ greatestPrice p) _ _ .0 (c .0)
+
+party-widths : (gln : List ℕ) (brp : Brp) (share : ℕ) → length gln ≡ glnDigits → length (brpGlnOf gln brp) ≡ glnDigits
+    → widthsOf (inWidths (fieldWidths (partyKindOf brp)) (digits gln ∷ (brpFields brp ++ (number share ∷ [])))) ≡ fieldWidths (partyKindOf brp)
+unfolding fieldWidths layouts widthsIn brpFields inWidths fieldBytes
+party-widths gln ownBrp share own brps = rw (own, bytes-length 8 share)
+party-widths gln (namedBrp brpGln) share own brps = rw (own, brps, bytes-length 8 share)
 
 reading-widths : (who a b e : ℕ) (over : Over)
     → widthsOf (inWidths (fieldWidths (readingKindOf over)) (number who ∷ number a ∷ number b ∷ number e ∷ weightFields over)) ≡ fieldWidths (readingKindOf over)
@@ -195,7 +205,8 @@ reading-widths who a b e (manyMonths before whole) = simp bytes-length
 widths-are : (r : Record) → NoneRefuses (checks alone r) → widthsOf (inWidths (fieldWidths (kindOf r)) (fieldsOf r)) ≡ fieldWidths (kindOf r)
 unfolding fieldWidths layouts widthsIn fieldsOf hourFields inWidths fieldBytes
 widths-are (heading h) c = simp bytes-length
-widths-are (party p) c = rw (valid-length (p .gln) (valid-gln (p .gln) (p .share) c), bytes-length 8 (p .share))
+widths-are (party p) c =
+    party-widths (p .gln) (p .brp) (p .share) (valid-length (p .gln) (valid-gln p c)) (valid-length (brpGln p) (valid-brp-gln p c))
 widths-are (fixedHour hour f) c = simp bytes-length
 widths-are (reading r) c = reading-widths (r .party) (r .a) (r .b) (r .e) (r .over)
 widths-are (price hour p) c = simp bytes-length
@@ -296,6 +307,13 @@ weights-back who a b e (manyMonths before whole) p-small a-small b-small e-small
       number-of-bytes 8 whole (held .1),
     )
 
+party-back : (gln : List ℕ) (brp : Brp) (share : ℕ) → share < 256 ^ 8
+    → recordFrom (partyKindOf brp) (inWidths (fieldWidths (partyKindOf brp)) (digits gln ∷ (brpFields brp ++ (number share ∷ []))))
+    ≡ party (record { gln = gln; brp = brp; share = share })
+unfolding fieldWidths layouts widthsIn brpFields inWidths fieldBytes recordFrom partyFrom numberAt field
+party-back gln ownBrp share small = rw (number-of-bytes 8 share small)
+party-back gln (namedBrp brpGln) share small = rw (number-of-bytes 8 share small)
+
 reading-back : (r : Reading) → WeightsHeld (r .over) → NoneRefuses (checks alone (reading r)) → recordFrom (kindOf (reading r)) (written-fields (reading r)) ≡ reading r
 unfolding checks fieldsOf
 reading-back r held c =
@@ -321,7 +339,7 @@ unfolding checks fieldWidths layouts widthsIn fieldsOf hourFields inWidths field
 fields-back (heading h) n c = heading-back h (heading-facts h (unless-exactly (headingInRange h) _ _ .0 (c .0)))
 fields-back (party p) n c =
     let share = unless-exactly (leb (p .share) greatestShare) _ _ .0 (c .0) in
-    rw (number-of-bytes 8 (p .share) (omega (arith, leb-true (p .share) greatestShare share)))
+    party-back (p .gln) (p .brp) (p .share) (omega (arith, leb-true (p .share) greatestShare share))
 fields-back (fixedHour hour f) n c =
     let h = hour-held hour f (unless-exactly (hourInRange mostHours hour f) _ _ .0 (c .0)) in
     ap₂ fixedHour (hour-back hour f h) (flows-back hour f h)
@@ -387,12 +405,22 @@ module _ (body : List ℕ) (h : Bytes body) where
       ap (λ (fs : List (List ℕ)). take glnDigits body ∷ fs)
       (again-same (8 ∷ []) (drop glnDigits body) (rw (length-drop glnDigits body) (omega arith)) (bytes-drop glnDigits body h))
 
+  glns-again : 34 ≤ length body
+      → take glnDigits body ∷ take glnDigits (drop glnDigits body) ∷ bytesOf 8 (numberOnto 0 (take 8 (drop glnDigits (drop glnDigits body)))) ∷ []
+      ≡ cutInto (glnDigits ∷ glnDigits ∷ 8 ∷ []) body
+  unfolding totalOf cutInto
+  glns-again r =
+      let after-glns : List ℕ = drop glnDigits (drop glnDigits body) in
+      let size : 8 ≤ length after-glns = rw (length-drop glnDigits (drop glnDigits body), length-drop glnDigits body) (omega arith) in
+      ap (λ (fs : List (List ℕ)). take glnDigits body ∷ take glnDigits (drop glnDigits body) ∷ fs)
+      (again-same (8 ∷ []) after-glns size (bytes-drop glnDigits (drop glnDigits body) (bytes-drop glnDigits body h)))
+
   -- the record cut out of a body has that body's fields
   abbrev SameFields : ℕ → List ℕ → Type 0
   SameFields k ws = totalOf ws ≤ length body → inWidths ws (fieldsOf (recordFrom k (cutInto ws body))) ≡ cutInto ws body
 
   same-fields : Entries SameFields layouts
-  unfolding layouts totalOf cutInto fieldsOf weightFields recordFrom headingFrom readingFrom numberAt signedAt field inWidths fieldBytes
+  unfolding layouts totalOf cutInto fieldsOf brpFields weightFields recordFrom headingFrom partyFrom readingFrom numberAt signedAt field inWidths fieldBytes
   same-fields = (
     λ r. again-same (2 ∷ 2 ∷ 1 ∷ 2 ∷ 1 ∷ 1 ∷ []) body r h,
     (
@@ -403,7 +431,10 @@ module _ (body : List ℕ) (h : Bytes body) where
           λ r. again-same (1 ∷ 2 ∷ 2 ∷ 4 ∷ []) body r h,
           (
             λ r. price-again r,
-            (λ r. hour-again r, (λ r. again-same (4 ∷ []) body r h, (λ r. again-same (1 ∷ 2 ∷ 2 ∷ 4 ∷ 8 ∷ 8 ∷ []) body r h, tt))),
+            (
+              λ r. hour-again r,
+              (λ r. again-same (4 ∷ []) body r h, (λ r. again-same (1 ∷ 2 ∷ 2 ∷ 4 ∷ 8 ∷ 8 ∷ []) body r h, (λ r. glns-again r, tt))),
+            ),
           ),
         ),
       ),
@@ -444,7 +475,7 @@ module _ (body : List ℕ) (h : Bytes body) where
                     rw (weights-after 4 2 2 1 body) (small-at 9 8 (omega arith)),
                     rw (weights-after 4 2 2 1 body, drop-drop 8 9 body) (small-at 17 8 (omega arith)),
                   ),
-                  tt,
+                  (λ r. tt, tt),
                 ),
               ),
             ),

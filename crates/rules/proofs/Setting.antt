@@ -13,7 +13,7 @@ use Rattle.rules.specs.MonthFile.{MonthFile, nothingYet, with, recordChe
 use Rattle.rules.specs.Record.{Record, bodyLength, recordAt}
 use Rattle.rules.specs.Refusals.{fileFault, accepted, Answer, given, refusal, unless, andThen, first}
 use Rattle.rules.specs.Setting.{Setting, final, provisional}
-use Rattle.rules.specs.Statement.{answeredStatement, judgedStatement, statement}
+use Rattle.rules.specs.Statement.{Per, answeredStatement, judgedStatement, statementPer}
 use Rattle.rules.specs.Words.{within}
 use Rattle.rules.proofs.Refusals.{accepted-exactly, unless-exactly}
 
@@ -45,10 +45,12 @@ unfolding monthVerdict monthChecks refixedVerdict first andThen unless
 judged-alike m some = rw (le-leb 1 (length (m .refixed)) some)
 
 -- THE PREVIEW IS THE STATEMENT, byte for byte, of every file but one that is read as a month without 06 records
-pub preview-is-the-statement : (file : List ℕ) → ((m : MonthFile) → readMonth final file ≡ given m → 1 ≤ length (m .refixed)) → statement provisional file ≡ statement final file
-unfolding statement answeredStatement
-preview-is-the-statement file some = ap (answeredStatement provisional) (read-alike provisional final file) ∙ go (readMonth final file) refl
+pub preview-is-the-statement :
+    (per : Per) (file : List ℕ) → ((m : MonthFile) → readMonth final file ≡ given m → 1 ≤ length (m .refixed))
+    → statementPer per provisional file ≡ statementPer per final file
+unfolding statementPer answeredStatement
+preview-is-the-statement per file some = ap (answeredStatement per provisional) (read-alike provisional final file) ∙ go (readMonth final file) refl
   where
-    go : (a : Answer MonthFile) → readMonth final file ≡ a → answeredStatement provisional a ≡ answeredStatement final a
-    go (given m) e = ap (judgedStatement m) (judged-alike m (some m e))
+    go : (a : Answer MonthFile) → readMonth final file ≡ a → answeredStatement per provisional a ≡ answeredStatement per final a
+    go (given m) e = ap (judgedStatement per m) (judged-alike m (some m e))
     go (refusal r place) e = refl

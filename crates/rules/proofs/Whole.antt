@@ -16,15 +16,15 @@ use Rattle.rules.specs.Accepted.{NoneRefuses}
 use Rattle.rules.specs.Flows.{Flows, flowsInRange, silentIsZero}
 use Rattle.rules.specs.Gln.{validGln, rises, digitsOnto}
 use Rattle.rules.specs.Limits.{greatestArea, earliestYear, latestYear, monthsOfAYear, mostHours, mostParties, greatestShare, greatestEnergy, greatestPrice, longestFile}
-use Rattle.rules.specs.MonthFile.{MonthFile, nothingYet, H, P, due, risesAfter, recordChecks, with, isEnd, closed, onward, readOn, readMonth}
+use Rattle.rules.specs.MonthFile.{MonthFile, nothingYet, H, P, due, likeTheFirst, risesAfter, recordChecks, with, isEnd, closed, onward, readOn, readMonth}
 use Rattle.rules.specs.Record.{Heading, Party, Reading, Record, heading, party, fixedHour, reading, price, refixedHour, end, bodyLength, recordAt}
-use Rattle.rules.specs.Record.{inFile, headingInRange, hourInRange, checks}
+use Rattle.rules.specs.Record.{brpGln, partyKindOf, inFile, headingInRange, hourInRange, checks}
 use Rattle.rules.specs.Refusals.{fileFault, Verdict, accepted, refused, Answer, given, refusal, first}
 use Rattle.rules.specs.Services.{sameℤ}
 use Rattle.rules.specs.Setting.{Setting}
 use Rattle.rules.specs.Words.{within, withinℤ}
 use Rattle.rules.proofs.Refusals.{accepted-exactly, unless-exactly, given-not-refusal}
-pub use Rattle.rules.specs.WellFormed.{Every, PartyRight, FlowsRight, PriceRight, ReadingRight, HeadingRight, Below, Rising, Whole}
+pub use Rattle.rules.specs.WellFormed.{Every, PartyRight, FlowsRight, PriceRight, ReadingRight, HeadingRight, Below, Rising, SameKind, OneKind, Whole}
 
 -- Tests: one is passed or not; both are passed; one of them is; two numbers are the same.
 pub true-not-false : _≡_ {A = Bool} true false → ⊥
@@ -137,6 +137,12 @@ one-above (q ∷ l) p h a = (every-more (Below q) l p (h .0) (a .0), one-above l
 
 rising-more : (l : List Party) (p : Party) → Rising l → risesAfter l p ≡ true → Rising (l ++ (p ∷ []))
 rising-more l p h e = one-above l p h (above-all l p h e)
+
+-- PARTIES OF ONE KIND: a record like the first one's keeps them so.
+one-kind-more : (l : List Party) (p : Party) → OneKind l → likeTheFirst l p ≡ true → OneKind (l ++ (p ∷ []))
+unfolding likeTheFirst
+one-kind-more [] p k e = tt
+one-kind-more (q ∷ l) p k e = every-more (SameKind q) l p k (eqb-true (partyKindOf (q .brp)) (partyKindOf (p .brp)) e)
 
 -- How many of each kind there are, of a file of h hours and p parties: a parties, f fixed and r refixed hours, q prices, g readings.
 pub record Counts (h p a f r q g : ℕ) : Type 0 where
@@ -271,6 +277,7 @@ pub record Sound (m : MonthFile) : Type 0 where
   pub head : 0 < H m → HeadingRight (m .heading)
   pub parties : Every PartyRight (m .parties)
   pub rising : Rising (m .parties)
+  pub one-kind : OneKind (m .parties)
   pub fixed : Every FlowsRight (m .fixed)
   pub refixed : Every FlowsRight (m .refixed)
   pub prices : Every PriceRight (m .prices)
@@ -279,7 +286,7 @@ pub record Sound (m : MonthFile) : Type 0 where
 pub nothing-is-sound : Sound nothingYet
 unfolding nothingYet H P
 nothing-is-sound =
-    record { counts = nothing-counted; head = λ x. absurd (omega arith); parties = tt; rising = tt; fixed = tt; refixed = tt; prices = tt; readings = tt }
+    record { counts = nothing-counted; head = λ x. absurd (omega arith); parties = tt; rising = tt; one-kind = tt; fixed = tt; refixed = tt; prices = tt; readings = tt }
 
 -- One record that is due and passes its checks keeps the month sound.
 module _ (m : MonthFile) (s : Sound m) (n : ℕ) where
@@ -296,6 +303,7 @@ module _ (m : MonthFile) (s : Sound m) (n : ℕ) where
         head = λ x. right;
         parties = s .parties;
         rising = s .rising;
+        one-kind = s .one-kind;
         fixed = s .fixed;
         refixed = s .refixed;
         prices = s .prices;
@@ -306,12 +314,15 @@ module _ (m : MonthFile) (s : Sound m) (n : ℕ) where
   unfolding due with H P checks
   with-party p d c =
       let share : p .share ≤ greatestShare = leb-true (p .share) greatestShare (unless-exactly (leb (p .share) greatestShare) _ _ .0 (c .0)) in
+      let tests = both-pass (ltb (length (m .parties)) (P m)) (likeTheFirst (m .parties) p) d in
       let valid : validGln (p .gln) ≡ true = unless-exactly (validGln (p .gln)) _ _ .0 (c .1 .0) in
+      let brp : validGln (brpGln p) ≡ true = unless-exactly (validGln (brpGln p)) _ _ .0 (c .1 .1 .0) in
       record {
-        counts = rw (one-more (m .parties) p) (one-party (s .counts) (ltb-true (length (m .parties)) (m .heading .parties) d));
+        counts = rw (one-more (m .parties) p) (one-party (s .counts) (ltb-true (length (m .parties)) (m .heading .parties) (tests .0)));
         head = s .head;
-        parties = every-more PartyRight (m .parties) p (s .parties) (share, valid);
-        rising = rising-more (m .parties) p (s .rising) (unless-exactly (risesAfter (m .parties) p) _ _ .0 (c .1 .1 .0));
+        parties = every-more PartyRight (m .parties) p (s .parties) (share, valid, brp);
+        rising = rising-more (m .parties) p (s .rising) (unless-exactly (risesAfter (m .parties) p) _ _ .0 (c .1 .1 .1 .0));
+        one-kind = one-kind-more (m .parties) p (s .one-kind) (tests .1);
         fixed = s .fixed;
         refixed = s .refixed;
         prices = s .prices;
@@ -335,6 +346,7 @@ module _ (m : MonthFile) (s : Sound m) (n : ℕ) where
         head = s .head;
         parties = s .parties;
         rising = s .rising;
+        one-kind = s .one-kind;
         fixed = every-more FlowsRight (m .fixed) f (s .fixed) right;
         refixed = s .refixed;
         prices = s .prices;
@@ -354,6 +366,7 @@ module _ (m : MonthFile) (s : Sound m) (n : ℕ) where
         head = s .head;
         parties = s .parties;
         rising = s .rising;
+        one-kind = s .one-kind;
         fixed = s .fixed;
         refixed = every-more FlowsRight (m .refixed) f (s .refixed) right;
         prices = s .prices;
@@ -380,6 +393,7 @@ module _ (m : MonthFile) (s : Sound m) (n : ℕ) where
         head = s .head;
         parties = s .parties;
         rising = s .rising;
+        one-kind = s .one-kind;
         fixed = s .fixed;
         refixed = s .refixed;
         prices = every-more PriceRight (m .prices) z (s .prices) right;
@@ -405,6 +419,7 @@ module _ (m : MonthFile) (s : Sound m) (n : ℕ) where
         head = s .head;
         parties = s .parties;
         rising = s .rising;
+        one-kind = s .one-kind;
         fixed = s .fixed;
         refixed = s .refixed;
         prices = s .prices;
@@ -430,6 +445,7 @@ module _ (m : MonthFile) (s : Sound m) where
         all-prices = all;
         parties = s .parties;
         rising = s .rising;
+        one-kind = s .one-kind;
         fixed = s .fixed;
         refixed = s .refixed;
         prices = s .prices;

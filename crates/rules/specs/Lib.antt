@@ -44,6 +44,8 @@ pub mod Month
 pub mod PlainRecord
 pub mod Services
 pub mod Plan
+pub mod Brp
+pub mod BrpDemands
 pub mod Statement
 pub mod HoursReport
 pub mod WorkedCases

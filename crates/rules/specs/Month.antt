@@ -12,7 +12,7 @@ use Rattle.rules.specs.Limits.{greatestW, greatestCurveNumber, greatestW
 use Rattle.rules.specs.MonthFile.{MonthFile, H, P, nothingYet, readMonth}
 use Rattle.rules.specs.Periodised.{periodisedFigure, partOfE}
 use Rattle.rules.specs.Reconciliation.{gridLoss, lossOf, differenceOf, amountMillionths}
-use Rattle.rules.specs.Record.{Party, Over, thisMonth, manyMonths, Reading}
+use Rattle.rules.specs.Record.{ownBrp, Party, Over, thisMonth, manyMonths, Reading}
 use Rattle.rules.specs.Refusals.{notRefixed, wOutOfRange, curveTooLarge, wholeExceeded, nothingToFollow, periodisedTooLarge, wrongLength}
 use Rattle.rules.specs.Refusals.{Verdict, refused, Answer, given, refusal, unless, andThen, first, inTurn}
 use Rattle.rules.specs.Setting.{Setting, provisional, isProvisional}
@@ -20,7 +20,7 @@ use Rattle.rules.specs.Words.{sum, sumℤ, count, within}
 
 -- What stands at a place of a list. Past a list's end nothing is asked; what is written for it there is an empty record.
 unfoldable pub partyAt : MonthFile → ℕ → Party
-partyAt m i = getD (m .parties) i (record { gln = []; share = 0 })
+partyAt m i = getD (m .parties) i (record { gln = []; brp = ownBrp; share = 0 })
 
 unfoldable pub flowsAt : List Flows → ℕ → Flows
 flowsAt series t = getD series t (record { status = missing; net = pos 0; production = 0; hourly = 0; flex = 0 })

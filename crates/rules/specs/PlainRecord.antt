@@ -1,4 +1,4 @@
--- THE RECORD WRITER ON PLAIN NUMBERS: the kind is a number and the fields are a list of numbers, with a party's GLN beside them. So the kind may be unknown,
+-- THE RECORD WRITER ON PLAIN NUMBERS: the kind is a number and the fields are a list of numbers, with a party's GLN and its BRP's GLN beside them. So the kind may be unknown,
 -- which a record's can not: "The record writer tests 2, 4, 5, 11, 12 and then 16, all at place 0" (01 "Refusal numbers"). And the list may have another length
 -- than the kind has fields, or a number that its field can not hold: that one "is judged as if the field could" (READINGS A43; quoted below, too).
 -- A new kind is one clause of `plainRecord`.
@@ -10,8 +10,8 @@ use lib.IntN.{ℤ, pos, negsuc}
 use lib.ListN.{getD}
 use lib.Signed.{leZ}
 use Rattle.rules.specs.Flows.{Flows}
-use Rattle.rules.specs.Record.{headingKind, partyKind, fixedHourKind, readingKind, priceKind, refixedHourKind, endKind, longReadingKind, known, Heading}
-use Rattle.rules.specs.Record.{Over, thisMonth, manyMonths, Reading, Record, neverAsked}
+use Rattle.rules.specs.Record.{headingKind, partyKind, fixedHourKind, readingKind, priceKind, refixedHourKind, endKind, longReadingKind, brpPartyKind, known, Heading}
+use Rattle.rules.specs.Record.{ownBrp, namedBrp, partyFrom, Over, thisMonth, manyMonths, Reading, Record, neverAsked}
 use Rattle.rules.specs.Record.{heading, party, fixedHour, reading, price, refixedHour, end, Field, number, signedNumber, digits, fieldsOf, writeVerdict}
 use Rattle.rules.specs.Refusals.{unknownKind, outOfRange, Verdict, unless, first}
 
@@ -26,7 +26,7 @@ noSign (negsuc n) = 0
 unfoldable pub nthNoSign : List ℤ → ℕ → ℕ
 nthNoSign numbers k = noSign (nth numbers k)
 
--- THE RECORD that a kind, its numbers and a GLN are: each number as it is, however large
+-- THE RECORD that a kind, its numbers and its GLNs are: each number as it is, however large
 unfoldable pub plainHeading : List ℤ → Heading
 plainHeading l =
     record { area = nthNoSign l 0; year = nthNoSign l 1; month = nthNoSign l 2; hours = nthNoSign l 3; parties = nthNoSign l 4; carrier = nthNoSign l 5 }
@@ -38,16 +38,17 @@ plainFlows l =
 unfoldable pub plainReading : List ℤ → Over → Reading
 plainReading l over = record { party = nthNoSign l 0; a = nthNoSign l 1; b = nthNoSign l 2; e = nthNoSign l 3; over = over }
 
-unfoldable pub plainRecord : ℕ → List ℤ → List ℕ → Record
-plainRecord kind l gln =
+unfoldable pub plainRecord : ℕ → List ℤ → List ℕ → List ℕ → Record
+plainRecord kind l gln brpGln =
     cond (eqb kind headingKind) (heading (plainHeading l))
-    (cond (eqb kind partyKind) (party (record { gln = gln; share = nthNoSign l 0 }))
+    (cond (eqb kind partyKind) (party (partyFrom gln ownBrp (nthNoSign l 0)))
     (cond (eqb kind fixedHourKind) (fixedHour (nthNoSign l 0) (plainFlows l))
     (cond (eqb kind readingKind) (reading (plainReading l thisMonth))
     (cond (eqb kind priceKind) (price (nthNoSign l 0) (nth l 1))
     (cond (eqb kind refixedHourKind) (refixedHour (nthNoSign l 0) (plainFlows l))
     (cond (eqb kind endKind) (end (nthNoSign l 0))
-    (cond (eqb kind longReadingKind) (reading (plainReading l (manyMonths (nthNoSign l 4) (nthNoSign l 5)))) neverAsked)))))))
+    (cond (eqb kind longReadingKind) (reading (plainReading l (manyMonths (nthNoSign l 4) (nthNoSign l 5))))
+    (cond (eqb kind brpPartyKind) (party (partyFrom gln (namedBrp brpGln) (nthNoSign l 0))) neverAsked))))))))
 
 -- 4: "a list of fields of another length than the kind has", and a number "below 0 in a field that has no sign .., whatever the field". Every field has its
 -- number and no number is left over; a GLN's digits are none of the numbers.
@@ -68,10 +69,10 @@ fieldsHold kind numbers =
     (cond (eqb kind longReadingKind) (ltb (nthNoSign numbers 4) (256 ^ 8) && ltb (nthNoSign numbers 5) (256 ^ 8)) true)
 
 -- 2 first, then 4 of the list, then as the writer of that record: "above, by the field's own rule (a or b 11, E 12, else 4)"
-unfoldable pub plainVerdict : ℕ → List ℤ → List ℕ → ℕ → Verdict
-plainVerdict kind numbers gln lent =
+unfoldable pub plainVerdict : ℕ → List ℤ → List ℕ → List ℕ → ℕ → Verdict
+plainVerdict kind numbers gln brpGln lent =
     first
     (unless (known kind) unknownKind 0
-    ∷ unless (standIn (fieldsOf (plainRecord kind numbers gln)) numbers && fieldsHold kind numbers) outOfRange 0
-    ∷ writeVerdict (plainRecord kind numbers gln) lent
+    ∷ unless (standIn (fieldsOf (plainRecord kind numbers gln brpGln)) numbers && fieldsHold kind numbers) outOfRange 0
+    ∷ writeVerdict (plainRecord kind numbers gln brpGln) lent
     ∷ [])

@@ -39,6 +39,10 @@ endKind = 7
 abbrev pub longReadingKind : ℕ
 longReadingKind = 8
 
+-- W5: "A new party record 12 hexadecimal": a supplier with its balance responsible party (BRP)
+abbrev pub brpPartyKind : ℕ
+brpPartyKind = 18
+
 -- "03 fixed hour: hour 2, status 1, net supply 8, production 8, hourly 8, flex 8", "06 refixed hour: as 03"
 abbrev pub hourWidths : List ℕ
 hourWidths = 2 ∷ 1 ∷ 8 ∷ 8 ∷ 8 ∷ 8 ∷ []
@@ -46,6 +50,7 @@ hourWidths = 2 ∷ 1 ∷ 8 ∷ 8 ∷ 8 ∷ 8 ∷ []
 -- The table of 01, "kind", "fields (bytes)": each kind with the number of bytes of each of its fields, in order. "01 heading: area 2, year 2, month 1,
 -- hours H 2, parties P 1, loss carrier 1", "02 party: GLN 13 ASCII digits, load share 8", "04 reading: party 1, a 2, b 2, E 4", "05 price: hour 2, price 4",
 -- "07 end: number of records before it 4". W3: "08 (body 25: party 1, a 2, b 2, E 4, weight before this month 8, weight of the whole reading 8)".
+-- W5: "12 hexadecimal (body 34: supplier GLN 13, BRP GLN 13, load share 8)".
 unfoldable pub layouts : List (ℕ × List ℕ)
 layouts =
     (headingKind, 2 ∷ 2 ∷ 1 ∷ 2 ∷ 1 ∷ 1 ∷ [])
@@ -56,6 +61,7 @@ layouts =
     ∷ (refixedHourKind, hourWidths)
     ∷ (endKind, 4 ∷ [])
     ∷ (longReadingKind, 1 ∷ 2 ∷ 2 ∷ 4 ∷ 8 ∷ 8 ∷ [])
+    ∷ (brpPartyKind, glnDigits ∷ glnDigits ∷ 8 ∷ [])
     ∷ []
 
 -- the widths that a table has for a kind: none for a kind that is not in it
@@ -66,7 +72,7 @@ widthsIn (entry ∷ more) kind = cond (eqb (entry .0) kind) (entry .1) (widthsIn
 unfoldable pub fieldWidths : ℕ → List ℕ
 fieldWidths kind = widthsIn layouts kind
 
--- "The body lengths, by kind, are these": a body is its fields one after the other. (Law `lengths-are`: 9, 21, 35, 9, 6, 35, 4, 25.) Of an unknown kind it is 0.
+-- "The body lengths, by kind, are these": a body is its fields one after the other. (Law `lengths-are`: 9, 21, 35, 9, 6, 35, 4, 25, 34.) Of an unknown kind it is 0.
 unfoldable pub totalOf : List ℕ → ℕ
 totalOf [] = 0
 totalOf (width ∷ widths) = width + totalOf widths
@@ -86,9 +92,24 @@ pub record Heading : Type 0 where
   pub parties : ℕ
   pub carrier : ℕ
 
+-- Who is balance responsible for a supplier. W5: "A file with 02 records is still read, each party being its own BRP"; a 12 record names the BRP by its GLN.
+pub data Brp : Type 0 where
+  ownBrp : Brp
+  namedBrp : List ℕ → Brp
+
+-- a supplier
 pub record Party : Type 0 where
   pub gln : List ℕ
+  pub brp : Brp
   pub share : ℕ
+
+-- the GLN of a supplier's BRP
+abbrev pub brpGlnOf : List ℕ → Brp → List ℕ
+brpGlnOf gln ownBrp = gln
+brpGlnOf gln (namedBrp brpGln) = brpGln
+
+abbrev pub brpGln : Party → List ℕ
+brpGln p = brpGlnOf (p .gln) (p .brp)
 
 -- What a reading's E lies over: the hours from a to before b of this month (04), or several months, of which those before this one weigh so much and all
 -- together so much (W3, 08: "weight before this month 8, weight of the whole reading 8").
@@ -104,7 +125,7 @@ pub record Reading : Type 0 where
   pub e : ℕ
   pub over : Over
 
--- A record, by kind; a reading is of the kind 04 or 08 by what it lies over. Of an hour, a refixed hour and a price the first number is the hour field; an end
+-- A record, by kind; a party is of the kind 02 or 12 by its BRP, a reading 04 or 08 by what it lies over. Of an hour, a refixed hour and a price the first number is the hour field; an end
 -- has the number of records before it.
 pub data Record : Type 0 where
   heading : Heading → Record
@@ -159,6 +180,9 @@ flowsFrom fields =
 unfoldable pub readingFrom : List (List ℕ) → Over → Reading
 readingFrom fields over = record { party = numberAt fields 0; a = numberAt fields 1; b = numberAt fields 2; e = numberAt fields 3; over = over }
 
+unfoldable pub partyFrom : List ℕ → Brp → ℕ → Party
+partyFrom gln brp share = record { gln = gln; brp = brp; share = share }
+
 -- An unknown kind is no record and is refused (2) before its record is asked for. A definition has to give something: this, which nothing looks at.
 unfoldable pub neverAsked : Record
 neverAsked = end 0
@@ -167,13 +191,14 @@ neverAsked = end 0
 unfoldable pub recordFrom : ℕ → List (List ℕ) → Record
 recordFrom kind fields =
     cond (eqb kind headingKind) (heading (headingFrom fields))
-    (cond (eqb kind partyKind) (party (record { gln = field fields 0; share = numberAt fields 1 }))
+    (cond (eqb kind partyKind) (party (partyFrom (field fields 0) ownBrp (numberAt fields 1)))
     (cond (eqb kind fixedHourKind) (fixedHour (numberAt fields 0) (flowsFrom fields))
     (cond (eqb kind readingKind) (reading (readingFrom fields thisMonth))
     (cond (eqb kind priceKind) (price (numberAt fields 0) (signedAt fields 1))
     (cond (eqb kind refixedHourKind) (refixedHour (numberAt fields 0) (flowsFrom fields))
     (cond (eqb kind endKind) (end (numberAt fields 0))
-    (cond (eqb kind longReadingKind) (reading (readingFrom fields (manyMonths (numberAt fields 4) (numberAt fields 5)))) neverAsked)))))))
+    (cond (eqb kind longReadingKind) (reading (readingFrom fields (manyMonths (numberAt fields 4) (numberAt fields 5))))
+    (cond (eqb kind brpPartyKind) (party (partyFrom (field fields 0) (namedBrp (field fields 1)) (numberAt fields 2))) neverAsked))))))))
 
 -- the kind and the record that stand at the start of some bytes
 unfoldable pub kindAt : List ℕ → ℕ
@@ -200,13 +225,17 @@ inWidths (width ∷ widths) [] = []
 inWidths (width ∷ widths) (f ∷ fields) = fieldBytes width f ∷ inWidths widths fields
 
 -- a record's kind, and its fields in order
+abbrev pub partyKindOf : Brp → ℕ
+partyKindOf ownBrp = partyKind
+partyKindOf (namedBrp brpGln) = brpPartyKind
+
 abbrev pub readingKindOf : Over → ℕ
 readingKindOf thisMonth = readingKind
 readingKindOf (manyMonths before whole) = longReadingKind
 
 abbrev pub kindOf : Record → ℕ
 kindOf (heading h) = headingKind
-kindOf (party p) = partyKind
+kindOf (party p) = partyKindOf (p .brp)
 kindOf (fixedHour hour f) = fixedHourKind
 kindOf (reading r) = readingKindOf (r .over)
 kindOf (price hour p) = priceKind
@@ -217,6 +246,10 @@ unfoldable pub hourFields : ℕ → Flows → List Field
 hourFields hour f =
     number hour ∷ number (f .status) ∷ signedNumber (f .net) ∷ number (f .production) ∷ number (f .hourly) ∷ number (f .flex) ∷ []
 
+unfoldable pub brpFields : Brp → List Field
+brpFields ownBrp = []
+brpFields (namedBrp brpGln) = digits brpGln ∷ []
+
 unfoldable pub weightFields : Over → List Field
 weightFields thisMonth = []
 weightFields (manyMonths before whole) = number before ∷ number whole ∷ []
@@ -224,7 +257,7 @@ weightFields (manyMonths before whole) = number before ∷ number whole ∷ []
 unfoldable pub fieldsOf : Record → List Field
 fieldsOf (heading h) =
     number (h .area) ∷ number (h .year) ∷ number (h .month) ∷ number (h .hours) ∷ number (h .parties) ∷ number (h .carrier) ∷ []
-fieldsOf (party p) = digits (p .gln) ∷ number (p .share) ∷ []
+fieldsOf (party p) = digits (p .gln) ∷ (brpFields (p .brp) ++ (number (p .share) ∷ []))
 fieldsOf (fixedHour hour f) = hourFields hour f
 fieldsOf (reading r) = number (r .party) ∷ number (r .a) ∷ number (r .b) ∷ number (r .e) ∷ weightFields (r .over)
 fieldsOf (price hour p) = number hour ∷ signedNumber p ∷ []
@@ -294,10 +327,15 @@ with m (refixedHour hour f) = setRefixed m (m .refixed ++ (f ∷ []))
 with m (end count) = m
 
 -- THE ORDER (3, "kind or hour field out of order"). "Order: one 01; P times 02; H times 03; none or H times 06; H times 05; any number of 04; one 07. Hour
--- fields run 0, 1, 2 and so on": whether a record is due next. W3: an 08 "stands among the 04 records", in any order.
+-- fields run 0, 1, 2 and so on": whether a record is due next. W3: an 08 "stands among the 04 records", in any order. W5: a 12 "may stand in place of 02 for all
+-- parties of a file"; "a mixture of 02 and 12 is 3": a party's record is of the same kind as the first party's.
+unfoldable pub likeTheFirst : List Party → Party → Bool
+likeTheFirst [] p = true
+likeTheFirst (q ∷ qs) p = eqb (partyKindOf (q .brp)) (partyKindOf (p .brp))
+
 unfoldable pub due : MonthFile → Record → Bool
 due m (heading h) = eqb (H m) 0
-due m (party p) = ltb (length (m .parties)) (P m)
+due m (party p) = ltb (length (m .parties)) (P m) && likeTheFirst (m .parties) p
 due m (fixedHour hour f) = eqb (length (m .parties)) (P m) && ltb (length (m .fixed)) (H m) && eqb hour (length (m .fixed))
 due m (refixedHour hour f) =
     eqb (length (m .fixed)) (H m) && ltb (length (m .refixed)) (H m) && eqb (length (m .prices)) 0
@@ -330,7 +368,8 @@ abbrev pub placeOf : Position → ℕ
 placeOf (inFile m n) = n
 placeOf (byItself hours parties place) = place
 
--- "GLNs rise strictly.": a party's GLN is above that of the party before it. Of a record by itself "file order or rising GLNs" are not asked.
+-- "GLNs rise strictly.": a party's GLN is above that of the party before it. Of a record by itself "file order or rising GLNs" are not asked. W5:
+-- "BRP GLNs need not rise and may repeat."
 unfoldable pub risesAfter : List Party → Party → Bool
 risesAfter [] p = true
 risesAfter (q ∷ []) p = rises (q .gln) (p .gln)
@@ -358,12 +397,13 @@ unfoldable pub hourInRange : ℕ → ℕ → Flows → Bool
 hourInRange hours hour f = ltb hour hours && flowsInRange f && silentIsZero f
 
 -- THE CHECKS OF A RECORD'S FIELDS, kind by kind, each list in the order "4, 5, 11, 12, 15" (5: "GLN not digits, wrong check digit, not rising").
--- W3: those of an 08 are those of a 04; its weights may be any.
+-- W3: those of an 08 are those of a 04; its weights may be any. W5: "a bad BRP GLN is 5". (The BRP of a 02 is the party itself, and has its GLN.)
 unfoldable pub checks : Position → Record → List Verdict
 checks here (heading h) = unless (headingInRange h) outOfRange (placeOf here) ∷ []
 checks here (party p) =
     unless (leb (p .share) greatestShare) outOfRange (placeOf here)
     ∷ unless (validGln (p .gln)) glnFault (placeOf here)
+    ∷ unless (validGln (brpGln p)) glnFault (placeOf here)
     ∷ unless (risesAt here p) glnFault (placeOf here)
     ∷ []
 checks here (fixedHour hour f) = unless (hourInRange (hoursOf here) hour f) outOfRange (placeOf here) ∷ []

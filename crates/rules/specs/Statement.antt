@@ -1,10 +1,12 @@
--- "The statement program" (01) and the preview program (02, W1): their text, as bytes, from the setting and the bytes of the month file.
+-- "The statement program" (01), the preview program (02, W1) and the BRP program (02, W5): their text, as bytes, from the setting and the bytes of the month file.
 use mathlib.Core.Bool.{cond}
 use mathlib.Core.List.{List, [], _∷_, _++_}
 use Prim.Native.Nat.{ℕ, zero, suc, _+_, _/_, _%_}
 use lib.Dec.{ltb}
 use lib.IntN.{ℤ, pos, negsuc}
 use lib.ListN.{length}
+use Rattle.rules.specs.Brp.{brps, brpMonthDistributed, brpMonthPeriodised, brpMonthLoss, brpMonthDifference, brpInvoice}
+use Rattle.rules.specs.Limits.{glnDigits}
 use Rattle.rules.specs.Month.{partyAt, monthDistributed, monthPeriodised, monthLoss, monthDifference, invoice, estimatedHours, monthVerdict}
 use Rattle.rules.specs.MonthFile.{MonthFile, H, P, readMonth}
 use Rattle.rules.specs.Refusals.{Refusal, numberOf, Verdict, accepted, refused, Answer, given, refusal}
@@ -88,19 +90,48 @@ totalLine m =
     (sumℤ (P m) (monthDifference m))
     (sumℤ (P m) (invoice m))
 
-unfoldable pub statementLines : MonthFile → List ℕ
-statementLines m = headingLine m ++ joined (figures (P m) (partyLine m)) ++ totalLine m
+-- W5: "one line per BRP .. with the statement's columns", by its GLN of 13 digits
+unfoldable pub brpLine : MonthFile → ℕ → List ℕ
+brpLine m brp =
+    columnsLine (digitsOfWidth glnDigits brp) (brpMonthDistributed m brp) (brpMonthPeriodised m brp) (brpMonthLoss m brp)
+    (brpMonthDifference m brp)
+    (brpInvoice m brp)
+
+-- a line for each number of a list
+unfoldable pub lineForEach : (ℕ → List ℕ) → List ℕ → List ℕ
+lineForEach line [] = []
+lineForEach line (n ∷ more) = line n ++ lineForEach line more
+
+-- WHO HAS A LINE: "one line per party in order"; W5: "one line per BRP, in rising GLN order"
+pub data Per : Type 0 where
+  perParty : Per
+  perBrp : Per
+
+unfoldable pub linesPer : Per → MonthFile → List ℕ
+linesPer perParty m = joined (figures (P m) (partyLine m))
+linesPer perBrp m = lineForEach (brpLine m) (brps m)
+
+-- W5: "between its heading and total lines"
+unfoldable pub statementLines : Per → MonthFile → List ℕ
+statementLines per m = headingLine m ++ linesPer per m ++ totalLine m
 
 -- the statement of a month that was read: its lines, or its refusal
-unfoldable pub judgedStatement : MonthFile → Verdict → List ℕ
-judgedStatement m accepted = statementLines m
-judgedStatement m (refused r place) = refusalLine r place
+unfoldable pub judgedStatement : Per → MonthFile → Verdict → List ℕ
+judgedStatement per m accepted = statementLines per m
+judgedStatement per m (refused r place) = refusalLine r place
 
-unfoldable pub answeredStatement : Setting → Answer MonthFile → List ℕ
-answeredStatement setting (given m) = judgedStatement m (monthVerdict setting m)
-answeredStatement setting (refusal r place) = refusalLine r place
+unfoldable pub answeredStatement : Per → Setting → Answer MonthFile → List ℕ
+answeredStatement per setting (given m) = judgedStatement per m (monthVerdict setting m)
+answeredStatement per setting (refusal r place) = refusalLine r place
 
--- THE STATEMENT OF A FILE: "Reads one month file from standard input. .. On refusal it prints one line .. Else: .." W1: "The statement program keeps final as its
--- setting; a preview program asks for provisional"
-unfoldable pub statement : Setting → List ℕ → List ℕ
-statement setting bytes = answeredStatement setting (readMonth setting bytes)
+-- the statement of a file, per party or per BRP: "Reads one month file from standard input. .. On refusal it prints one line .. Else: .."
+unfoldable pub statementPer : Per → Setting → List ℕ → List ℕ
+statementPer per setting bytes = answeredStatement per setting (readMonth setting bytes)
+
+-- THE STATEMENT OF A FILE. W1: "The statement program keeps final as its setting; a preview program asks for provisional"
+abbrev pub statement : Setting → List ℕ → List ℕ
+statement = statementPer perParty
+
+-- THE BRP STATEMENT OF A FILE (W5)
+abbrev pub brpStatement : Setting → List ℕ → List ℕ
+brpStatement = statementPer perBrp

@@ -11,7 +11,7 @@ use Rattle.rules.specs.Flows.{Flows, flowsInRange, silentIsZero}
 use Rattle.rules.specs.Gln.{validGln, digitsOnto}
 use Rattle.rules.specs.Limits.{greatestShare, greatestEnergy, greatestPrice, longestFile}
 use Rattle.rules.specs.Record.{Heading, Party, Over, thisMonth, manyMonths, Reading, Record, heading, party, fixedHour, reading, price, refixedHour, end}
-use Rattle.rules.specs.Record.{recordBytes, MonthFile, H, P, headingInRange}
+use Rattle.rules.specs.Record.{recordBytes, brpGln, partyKindOf, MonthFile, H, P, headingInRange}
 use Rattle.rules.specs.Words.{withinℤ}
 
 -- bytes: every one below 256
@@ -37,7 +37,8 @@ asParty n p = party p
 abbrev pub asReading : ℕ → Reading → Record
 asReading n r = reading r
 
--- "Order: one 01; P times 02; H times 03; none or H times 06; H times 05; any number of 04; one 07.": all but the last. W3: an 08 "stands among the 04 records".
+-- "Order: one 01; P times 02; H times 03; none or H times 06; H times 05; any number of 04; one 07.": all but the last. W3: an 08 "stands among the 04 records". W5: a 12 "in
+-- place of 02 for all parties of a file".
 unfoldable pub recordsOf : MonthFile → List Record
 recordsOf m =
     heading (m .heading)
@@ -60,9 +61,9 @@ fileOf m = bytesOfAll (recordsOf m) ++ recordBytes (end (length (recordsOf m)))
 abbrev pub HeadingRight : Heading → Type 0
 HeadingRight h = headingInRange h ≡ true
 
--- "Load share 0..4,000,000,000", and a GLN of thirteen digits with the right check digit
+-- "Load share 0..4,000,000,000", and a GLN of thirteen digits with the right check digit, its BRP's too
 abbrev pub PartyRight : Party → Type 0
-PartyRight p = (p .share ≤ greatestShare) × (validGln (p .gln) ≡ true)
+PartyRight p = (p .share ≤ greatestShare) × (validGln (p .gln) ≡ true) × (validGln (brpGln p) ≡ true)
 
 -- "Net supply -8,000,000,000..8,000,000,000; other flows 0..8,000,000,000", status 0 to 2, and nothing but 0 with status 0
 abbrev pub FlowsRight : Flows → Type 0
@@ -103,6 +104,14 @@ abbrev pub Rising : List Party → Type 0
 Rising [] = Unit
 Rising (p ∷ later) = Every (Below p) later × Rising later
 
+-- W5: "a mixture of 02 and 12 is 3": the parties' records are all of the first one's kind
+abbrev pub SameKind : Party → Party → Type 0
+SameKind p q = partyKindOf (p .brp) ≡ partyKindOf (q .brp)
+
+abbrev pub OneKind : List Party → Type 0
+OneKind [] = Unit
+OneKind (p ∷ later) = Every (SameKind p) later
+
 -- all the records that the heading announces, each within its rules
 pub record Whole (m : MonthFile) : Type 0 where
   pub head : HeadingRight (m .heading)
@@ -113,6 +122,7 @@ pub record Whole (m : MonthFile) : Type 0 where
   pub all-prices : length (m .prices) ≡ H m
   pub parties : Every PartyRight (m .parties)
   pub rising : Rising (m .parties)
+  pub one-kind : OneKind (m .parties)
   pub fixed : Every FlowsRight (m .fixed)
   pub refixed : Every FlowsRight (m .refixed)
   pub prices : Every PriceRight (m .prices)

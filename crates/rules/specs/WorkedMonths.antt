@@ -10,7 +10,7 @@ use lib.ListN.{take}
 use Rattle.rules.specs.Flows.{Flows}
 use Rattle.rules.specs.HoursReport.{hoursReport}
 use Rattle.rules.specs.Limits.{missing, measured, estimated}
-use Rattle.rules.specs.Record.{thisMonth, manyMonths, Record, heading, party, fixedHour, reading, price, refixedHour, end, recordBytes}
+use Rattle.rules.specs.Record.{ownBrp, thisMonth, manyMonths, Record, heading, party, fixedHour, reading, price, refixedHour, end, recordBytes}
 use Rattle.rules.specs.Setting.{final, provisional}
 use Rattle.rules.specs.Statement.{statement}
 use Rattle.rules.specs.Words.{ascii}
@@ -25,7 +25,7 @@ unfoldable pub supply : ℕ → ℤ → Flows
 supply status net = record { status = status; net = net; production = 0; hourly = 0; flex = 0 }
 
 unfoldable pub partyOf : String → ℕ → Record
-partyOf gln share = party (record { gln = ascii gln; share = share })
+partyOf gln share = party (record { gln = ascii gln; brp = ownBrp; share = share })
 
 unfoldable pub readingOf : ℕ → ℕ → ℕ → ℕ → Record
 readingOf who a b e = reading (record { party = who; a = a; b = b; e = e; over = thisMonth })

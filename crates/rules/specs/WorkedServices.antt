@@ -128,19 +128,19 @@ pub record WorkedServices : Type 0 where
   pub write-any-weights : writeVerdict (longReadingOf 0 0 1 1 18446744073709551615 0) 26 ≡ accepted
   pub write-long-short : writeVerdict (longReadingOf 0 0 1 1 18446744073709551615 0) 25 ≡ refused wrongLength 0
   -- the writer on plain numbers: 2 before all; another length; a or b beyond two bytes, and E beyond four, by their own rules; below 0 before any of them; a count beyond four bytes
-  pub plain-unknown : plainVerdict 255 [] [] 0 ≡ refused unknownKind 0
-  pub plain-too-many : plainVerdict endKind (pos 1 ∷ pos 1 ∷ []) [] 5 ≡ refused outOfRange 0
-  pub plain-too-few : plainVerdict readingKind (pos 0 ∷ pos 0 ∷ pos 1 ∷ []) [] 10 ≡ refused outOfRange 0
-  pub plain-span : plainVerdict readingKind (pos 0 ∷ pos 65536 ∷ pos 65537 ∷ pos 0 ∷ []) [] 10 ≡ refused spanFault 0
-  pub plain-energy : plainVerdict readingKind (pos 0 ∷ pos 0 ∷ pos 1 ∷ pos 4294967296 ∷ []) [] 10 ≡ refused energyTooLarge 0
-  pub plain-negative : plainVerdict readingKind (pos 0 ∷ pos 1 ∷ pos 1 ∷ negsuc 0 ∷ []) [] 10 ≡ refused outOfRange 0
-  pub plain-negative-hour : plainVerdict priceKind (negsuc 0 ∷ negsuc 0 ∷ []) [] 7 ≡ refused outOfRange 0
-  pub plain-negative-price : plainVerdict priceKind (pos 0 ∷ negsuc 0 ∷ []) [] 7 ≡ accepted
-  pub plain-count : plainVerdict endKind (pos 4294967295 ∷ []) [] 5 ≡ accepted
-  pub plain-count-above : plainVerdict endKind (pos 4294967296 ∷ []) [] 5 ≡ refused outOfRange 0
-  pub plain-weights : plainVerdict longReadingKind (pos 0 ∷ pos 0 ∷ pos 1 ∷ pos 0 ∷ pos 9223372036854775807 ∷ pos 0 ∷ []) [] 26 ≡ accepted
-  pub plain-weight-above : plainVerdict longReadingKind (pos 0 ∷ pos 0 ∷ pos 1 ∷ pos 0 ∷ pos 0 ∷ pos 18446744073709551616 ∷ []) [] 26 ≡ refused outOfRange 0
-  pub plain-weight-below : plainVerdict longReadingKind (pos 0 ∷ pos 0 ∷ pos 1 ∷ pos 0 ∷ pos 0 ∷ negsuc 0 ∷ []) [] 26 ≡ refused outOfRange 0
+  pub plain-unknown : plainVerdict 255 [] [] [] 0 ≡ refused unknownKind 0
+  pub plain-too-many : plainVerdict endKind (pos 1 ∷ pos 1 ∷ []) [] [] 5 ≡ refused outOfRange 0
+  pub plain-too-few : plainVerdict readingKind (pos 0 ∷ pos 0 ∷ pos 1 ∷ []) [] [] 10 ≡ refused outOfRange 0
+  pub plain-span : plainVerdict readingKind (pos 0 ∷ pos 65536 ∷ pos 65537 ∷ pos 0 ∷ []) [] [] 10 ≡ refused spanFault 0
+  pub plain-energy : plainVerdict readingKind (pos 0 ∷ pos 0 ∷ pos 1 ∷ pos 4294967296 ∷ []) [] [] 10 ≡ refused energyTooLarge 0
+  pub plain-negative : plainVerdict readingKind (pos 0 ∷ pos 1 ∷ pos 1 ∷ negsuc 0 ∷ []) [] [] 10 ≡ refused outOfRange 0
+  pub plain-negative-hour : plainVerdict priceKind (negsuc 0 ∷ negsuc 0 ∷ []) [] [] 7 ≡ refused outOfRange 0
+  pub plain-negative-price : plainVerdict priceKind (pos 0 ∷ negsuc 0 ∷ []) [] [] 7 ≡ accepted
+  pub plain-count : plainVerdict endKind (pos 4294967295 ∷ []) [] [] 5 ≡ accepted
+  pub plain-count-above : plainVerdict endKind (pos 4294967296 ∷ []) [] [] 5 ≡ refused outOfRange 0
+  pub plain-weights : plainVerdict longReadingKind (pos 0 ∷ pos 0 ∷ pos 1 ∷ pos 0 ∷ pos 9223372036854775807 ∷ pos 0 ∷ []) [] [] 26 ≡ accepted
+  pub plain-weight-above : plainVerdict longReadingKind (pos 0 ∷ pos 0 ∷ pos 1 ∷ pos 0 ∷ pos 0 ∷ pos 18446744073709551616 ∷ []) [] [] 26 ≡ refused outOfRange 0
+  pub plain-weight-below : plainVerdict longReadingKind (pos 0 ∷ pos 0 ∷ pos 1 ∷ pos 0 ∷ pos 0 ∷ negsuc 0 ∷ []) [] [] 26 ≡ refused outOfRange 0
   -- W3, the planner: 7 Wh from hour 1 of a month of 2 hours, over one of 1 hour, to before hour 2 of one of 3: weights 1, 2 and 1 + 1
   pub plan-lines :
       planned (meter 7 1 2)

@@ -2,11 +2,11 @@
 use mir.Facts.{toZ-ofZ}
 use mir.Syntax.{w64}
 use mir.Val.{SFits}
-use Rattle.rules.specs.Record.{headingKind, partyKind, fixedHourKind, readingKind, priceKind, refixedHourKind, endKind, longReadingKind}
+use Rattle.rules.specs.Record.{headingKind, partyKind, fixedHourKind, readingKind, priceKind, refixedHourKind, endKind, longReadingKind, brpPartyKind}
 use Rattle.rules.proofs.EachKind.{body-lengths}
 use mathlib.Core.Path.{_∙_}
 use native.Mathlib.Omega.{arith}
-use Rattle.record.proofs.Decoding.{stands, as-at, end-kind, party-is, fixed-is, price-is, refixed-is, end-is}
+use Rattle.record.proofs.Decoding.{stands, as-at, end-kind, party-is, brp-party-is, fixed-is, price-is, refixed-is, end-is}
 use borrow.Author.Needs.{needs}
 use Rattle.record.proofs.decode.Statement.{statement}
 use Rattle.record.proofs.decode.Tie as tie
@@ -54,6 +54,10 @@ long-reading-in-requires : tie.Need-long-reading-in-requires
 unfolding body-lengths
 long-reading-in-requires c κs = omega (arith, stands (c .before .before .before .pre) longReadingKind (c .match .keys7))
 
+brp-share-in-requires : tie.Need-brp-share-in-requires
+unfolding body-lengths
+brp-share-in-requires c κs = omega (arith, stands (c .before .before .before .pre) brpPartyKind (c .match .keys8))
+
 u32-at-requires : tie.Need-u32-at-requires
 unfolding body-lengths
 u32-at-requires c κs = omega (arith, stands (c .before .before .before .pre) endKind (end-kind (c .before .before .before .pre) (c .match .rest)))
@@ -89,7 +93,14 @@ returns-7 : tie.Need-returns-7
 returns-7 c = c .long-reading-in .ensures ∙ as-at (c .before .before .before .before .pre) longReadingKind (c .before .match .keys7)
 
 returns-8 : tie.Need-returns-8
-returns-8 c = rw (c .u32-at .ensures) (end-is _ ∙ as-at (c .before .before .before .before .pre) endKind (end-kind (c .before .before .before .before .pre) (c .before .match .rest)))
+unfolding body-lengths
+returns-8 c =
+    let whole = c .before .before .before .before .pre in
+    rw (c .brp-share-in .ensures)
+    (brp-party-is _ (omega (arith, stands whole brpPartyKind (c .before .match .keys8))) ∙ as-at whole brpPartyKind (c .before .match .keys8))
+
+returns-9 : tie.Need-returns-9
+returns-9 c = rw (c .u32-at .ensures) (end-is _ ∙ as-at (c .before .before .before .before .pre) endKind (end-kind (c .before .before .before .before .pre) (c .before .match .rest)))
 
 pub decode-spec : {M : Type 1} → statement M
 decode-spec =
@@ -106,6 +117,7 @@ decode-spec =
     u16-at-requires-3
     flows-in-requires-2
     long-reading-in-requires
+    brp-share-in-requires
     u32-at-requires
     returns
     returns-2
@@ -114,4 +126,5 @@ decode-spec =
     returns-5
     returns-6
     returns-7
-    returns-8)
+    returns-8
+    returns-9)

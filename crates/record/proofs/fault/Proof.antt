@@ -62,7 +62,7 @@ returns : tie.Need-returns
 returns c = rw (c .before .before .before .r .given .1) (heading-fault _ _ _ _ (c .unless .ensures) _ (c .before .heading-in-range .ensures))
 
 returns-2 : tie.Need-returns-2
-returns-2 c = rw (c .before .before .r2 .given .1) (c .party-fault .ensures ∙ party-anywhere _ _ _ _ _)
+returns-2 c = rw (c .before .before .r2 .given .1) (c .party-fault .ensures ∙ party-anywhere _ _ _ _ _ _)
 
 returns-3 : tie.Need-returns-3
 returns-3 c = rw (c .before .before .before .r3 .given .1) (fixed-fault _ _ _ _ (c .unless2 .ensures) _ _ (c .before .hour-in-range .ensures))

@@ -31,8 +31,11 @@ decode-requires : tie.Need-decode-requires
 unfolding kindAt at
 decode-requires c κs = stands-whole _ (omega arith) (omega (arith, c .before .before .body-length .ensures)) (omega (arith, c .before .before .body-length .ensures))
 
-part-at-requires : tie.Need-part-at-requires
-part-at-requires c κs = search needs
+gln-in-requires : tie.Need-gln-in-requires
+gln-in-requires c κs = search needs
+
+brp-gln-in-requires : tie.Need-brp-gln-in-requires
+brp-gln-in-requires c κs = search needs
 
 fault-requires : tie.Need-fault-requires
 fault-requires c κs = search needs
@@ -46,16 +49,22 @@ enum-known-a c = search needs
 returns-4 : tie.Need-returns-4
 unfolding kindAt at
 returns-4 c =
-    let size = c .before .before .before .before .before .before .before .body-length .ensures in
-    whole-record _ (omega arith) (omega (arith, size)) (omega (arith, size)) _ (c .before .before .before .before .decode .ensures) (c .before .before .before .part-at .ensures) _
+    let size = c .before .before .before .before .before .before .before .before .body-length .ensures in
+    whole-record _ (omega arith) (omega (arith, size)) (omega (arith, size)) _ (c .before .before .before .before .before .decode .ensures)
+    (c .before .before .before .before .gln-in .ensures)
+    (c .before .before .before .brp-gln-in .ensures)
+    _
     (c .before .before .fault .ensures)
     (c .enum-told .given .1)
 
 returns-5 : tie.Need-returns-5
 unfolding kindAt at
 returns-5 c =
-    let size = c .before .before .before .before .before .before .before .before .body-length .ensures in
-    faulty-record _ (omega arith) (omega (arith, size)) (omega (arith, size)) _ (c .before .before .before .before .before .decode .ensures) (c .before .before .before .before .part-at .ensures) _
+    let size = c .before .before .before .before .before .before .before .before .before .body-length .ensures in
+    faulty-record _ (omega arith) (omega (arith, size)) (omega (arith, size)) _ (c .before .before .before .before .before .before .decode .ensures)
+    (c .before .before .before .before .before .gln-in .ensures)
+    (c .before .before .before .before .brp-gln-in .ensures)
+    _
     (c .before .before .before .fault .ensures)
     (c .before .a .given .1)
 
@@ -70,7 +79,8 @@ read-alone-spec =
     sub-if3
     returns-3
     decode-requires
-    part-at-requires
+    gln-in-requires
+    brp-gln-in-requires
     fault-requires
     enum-told
     enum-known-a
