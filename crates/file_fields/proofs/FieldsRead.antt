@@ -1,11 +1,8 @@
 -- What the readers of an accepted file's fields give, in the month that the file is read as: for the crates above.
-use mathlib.Core.Bool.{true, _&&_}
 use mathlib.Core.List.{List, []}
 use mathlib.Core.Path.{_≡_, _∙_, ap}
-use Prim.Native.Nat.{ℕ, _<_, _%_}
+use Prim.Native.Nat.{ℕ, _<_}
 use native.Mathlib.Omega.{arith}
-use borrow.Author.Tests.{eqb-true}
-use lib.Dec.{eqb}
 use lib.IntN.{ℤ}
 use lib.ListN.{length}
 use Rattle.record.specs.Record.{flowsOf}
@@ -13,20 +10,14 @@ use Rattle.record.specs.declared.Flows as CFlows
 use Rattle.file_sections.specs.declared.Sections.{Sections}
 use Rattle.file_sections.specs.Walk.{Accepted}
 use Rattle.file_sections.proofs.AcceptedFile.{read-as, month-whole}
-use Rattle.file_fields.specs.Fields.{FixedIs, RefixedIs, PriceIs, ShareIs, GlnIs}
-use Rattle.rules.specs.Gln.{allDigits, weightedSum, validGln}
+use Rattle.file_fields.specs.Fields.{FixedIs, RefixedIs, PriceIs, ShareIs, GlnIs, BrpGlnIs}
 use Rattle.rules.specs.Limits.{glnDigits}
 use Rattle.rules.specs.Month.{monthOf, flowsAt, partyAt, priceAt, shareOf}
 use Rattle.rules.specs.MonthFile.{P}
+use Rattle.rules.specs.Record.{ownBrp, brpGln}
 use Rattle.rules.specs.Setting.{provisional}
-use Rattle.rules.proofs.Whole.{every-at, PartyRight, both-pass}
-
-thirteen : (gln : List ℕ) → validGln gln ≡ true → length gln ≡ glnDigits
-unfolding validGln
-thirteen gln v =
-    eqb-true (length gln) glnDigits
-    (both-pass (eqb (length gln) glnDigits) (allDigits gln)
-    (both-pass (eqb (length gln) glnDigits && allDigits gln) (eqb (weightedSum gln % 10) 0) v .0) .0)
+use Rattle.rules.proofs.RoundTrip.{valid-length}
+use Rattle.rules.proofs.Whole.{every-at, PartyRight}
 
 module _ (file : List ℕ) (s : Sections) (ok : Accepted file s) where
   pub fixed-read : {t : ℕ} {f : CFlows.Flows} → FixedIs file t f → flowsOf f ≡ flowsAt (monthOf file .fixed) t
@@ -44,11 +35,16 @@ module _ (file : List ℕ) (s : Sections) (ok : Accepted file s) where
   pub gln-read : {i : ℕ} {gln : List ℕ} → GlnIs file i gln → gln ≡ partyAt (monthOf file) i .gln
   gln-read p = p .is provisional (monthOf file) (read-as file s ok provisional)
 
+  pub brp-gln-read : {i : ℕ} {gln : List ℕ} → BrpGlnIs file i gln → gln ≡ brpGln (partyAt (monthOf file) i)
+  brp-gln-read p = p .is provisional (monthOf file) (read-as file s ok provisional)
+
+  -- a party within its rules
+  pub party-right : {i : ℕ} → i < P (monthOf file) → PartyRight (partyAt (monthOf file) i)
+  unfolding partyAt
+  party-right {i} b =
+      every-at PartyRight (monthOf file .parties) (month-whole file s ok .parties) i (record { gln = []; brp = ownBrp; share = 0 })
+      (omega (arith, month-whole file s ok .all-parties))
+
   -- "GLN (13)"
   pub gln-length : {i : ℕ} → i < P (monthOf file) → {gln : List ℕ} → GlnIs file i gln → length gln ≡ glnDigits
-  unfolding partyAt
-  gln-length {i} b {gln} is =
-      ap length (gln-read is)
-      ∙ thirteen (partyAt (monthOf file) i .gln)
-      (every-at PartyRight (monthOf file .parties) (month-whole file s ok .parties) i (record { gln = []; share = 0 })
-      (omega (arith, month-whole file s ok .all-parties)) .1)
+  gln-length b {gln} is = ap length (gln-read is) ∙ valid-length _ (party-right b .1)

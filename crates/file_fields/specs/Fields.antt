@@ -12,7 +12,7 @@ use Rattle.file_sections.specs.declared.Sections.{Sections}
 use Rattle.file_sections.specs.Walk.{Accepted}
 use Rattle.rules.specs.Month.{flowsAt, partyAt, priceAt, shareOf, monthOf}
 use Rattle.rules.specs.MonthFile.{MonthFile, readMonth}
-use Rattle.rules.specs.Record.{readingKind, longReadingKind, reading, kindAt, recordAt}
+use Rattle.rules.specs.Record.{readingKind, longReadingKind, reading, brpGln, kindAt, recordAt}
 use Rattle.rules.specs.Setting.{Setting}
 use Rattle.rules.specs.Refusals.{given}
 use Rattle.rules.proofs.Places.{sizesBefore}
@@ -38,7 +38,7 @@ pub record ReadingAsked (file : List ℕ) (place : ℕ) : Type 0 where
 pub record ReadingPlaced (file : List ℕ) (s : Sections) (j place : ℕ) : Type 0 where
   pub accepted : Accepted file s
   pub number : j < s .readings
-  pub is : place ≡ s .«readings_at» + sizesBefore (monthOf file .readings) j
+  pub is : place ≡ s .«readings_at» + sizesBefore reading (monthOf file .readings) j
 
 pub record PartyAsked (file : List ℕ) (s : Sections) (i : ℕ) : Type 0 where
   pub accepted : Accepted file s
@@ -63,3 +63,6 @@ pub record ShareIs (file : List ℕ) (i n : ℕ) : Type 0 where
 
 pub record GlnIs (file : List ℕ) (i : ℕ) (gln : List ℕ) : Type 0 where
   pub is : (setting : Setting) (m : MonthFile) → readMonth setting file ≡ given m → gln ≡ partyAt m i .gln
+
+pub record BrpGlnIs (file : List ℕ) (i : ℕ) (gln : List ℕ) : Type 0 where
+  pub is : (setting : Setting) (m : MonthFile) → readMonth setting file ≡ given m → gln ≡ brpGln (partyAt m i)

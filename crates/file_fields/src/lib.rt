@@ -1,14 +1,14 @@
-// What stands at a place of an accepted month file (01 "The month file"): an hour's flows, a price, a reading, a load share, a GLN. Each function reads the one
+// What stands at a place of an accepted month file (01 "The month file"): an hour's flows, a price, a reading, a load share, a GLN, a BRP's GLN. Each function reads the one
 // record that stands there by its kind's own function of `record`: an accepted file has that kind there. They ask the sections that `file_sections::read`
 // gave for this file, and a place within them; to refuse by themselves they would have to read the file again. A reading is of one of two lengths, so it is
-// asked for by the byte where it stands.
+// asked for by the byte where it stands; the parties of a file all have the same length, which the sections tell.
 use file_sections::Sections;
 use record::Flows;
 use record::Reading;
 ghost use mathlib.Core.Path.{_≡_};
 ghost use Prim.Native.Nat.{_+_, _*_, _≤_};
 ghost use lib.ListN.{length, drop};
-ghost use Rattle.file_fields.specs.Fields.{FixedAsked, RefixedAsked, PriceAsked, ReadingAsked, PartyAsked, FixedIs, RefixedIs, PriceIs, ReadingIs, ShareIs, GlnIs};
+ghost use Rattle.file_fields.specs.Fields.{FixedAsked, RefixedAsked, PriceAsked, ReadingAsked, PartyAsked, FixedIs, RefixedIs, PriceIs, ReadingIs, ShareIs, GlnIs, BrpGlnIs};
 
 // The file from the k-th record of a section on, whose records have so many bytes.
 fn from_record<'a>(file: &'a [u8], section: usize, size: usize, k: usize) -> &'a [u8]
@@ -60,7 +60,11 @@ pub fn load_share(file: &[u8], s: Sections, i: usize) -> u64
     requires { ⌜ PartyAsked (now file) s i ⌝ }
     ensures { λ n. ⌜ ShareIs (now (file .entry)) i n ⌝ }
 {
-    record::share_in(from_record(file, s.parties_at, record::PARTY_SIZE, i))
+    let part = from_record(file, s.parties_at, s.party_size, i);
+    if part[0] == record::kind::BRP_PARTY {
+        return record::brp_share_in(part);
+    }
+    record::share_in(part)
 }
 
 // A party's thirteen digits, as the part of the file that holds them: they stand after the kind.
@@ -68,5 +72,17 @@ pub fn gln_of<'a>(file: &'a [u8], s: Sections, i: usize) -> &'a [u8]
     requires { ⌜ PartyAsked (now file) s i ⌝ }
     ensures { λ r. ⌜ GlnIs (now (file .entry)) i (now r) ⌝ }
 {
-    gln::part_at(from_record(file, s.parties_at, record::PARTY_SIZE, i), 1)
+    record::gln_in(from_record(file, s.parties_at, s.party_size, i))
+}
+
+// The thirteen digits of a party's BRP, as the part of the file that holds them: in a 12 record after its own, in a 02 record its own.
+pub fn brp_gln_of<'a>(file: &'a [u8], s: Sections, i: usize) -> &'a [u8]
+    requires { ⌜ PartyAsked (now file) s i ⌝ }
+    ensures { λ r. ⌜ BrpGlnIs (now (file .entry)) i (now r) ⌝ }
+{
+    let part = from_record(file, s.parties_at, s.party_size, i);
+    if part[0] == record::kind::BRP_PARTY {
+        return record::brp_gln_in(part);
+    }
+    record::gln_in(part)
 }

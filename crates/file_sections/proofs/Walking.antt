@@ -17,10 +17,10 @@ use Rattle.file_step.specs.declared.Walk.{Walk}
 use Rattle.file_step.specs.declared.Step.{Step}
 use Rattle.file_step.specs.declared.Step.the-variants as S
 use Rattle.file_sections.specs.declared.Sections.{Sections}
-use Rattle.file_step.specs.Walk.{startOf, Counted, Few, Stands, Stepped, Steppable}
+use Rattle.file_step.specs.Walk.{startOf, kindOfTheLast, Counted, Few, Stands, Stepped, Steppable}
 use Rattle.file_sections.specs.Walk.{sectionsIn, sectionsOf, sectionsFor, readAnswer}
 use Rattle.rules.specs.Limits.{longestFile}
-use Rattle.rules.specs.MonthFile.{MonthFile, nothingYet, risesAfter, recordChecks, isEnd, closed, onward, readOn, readMonth}
+use Rattle.rules.specs.MonthFile.{MonthFile, nothingYet, afterTheLast, risesAfter, recordChecks, isEnd, closed, onward, readOn, readMonth}
 use Rattle.rules.specs.MonthFile as F
 use Rattle.rules.specs.Record as R
 use Rattle.rules.specs.Refusals.{fileFault, given, refusal, first}
@@ -36,7 +36,7 @@ pub record Walking (setting : Setting) (file : List ℕ) (w : Walk) (place : ℕ
   pub same : readOn (asked (w .setting)) (length file - w .records) (drop place file) (w .records) month ≡ readOn setting (length file) file 0 nothingYet
 
 pub walk-start : (setting : Called.Setting) (file : List ℕ) → Walking (asked setting) file (startOf setting) 0
-unfolding nothingYet risesAfter
+unfolding nothingYet afterTheLast risesAfter kindOfTheLast
 walk-start setting file =
     record { bound = zero-le; counted = none; fuel = zero-le; month = nothingYet; stands = nothing; same = rw (sub-zero (length file)) }
   where
@@ -45,7 +45,7 @@ walk-start setting file =
 
     nothing : Stands nothingYet (startOf setting)
     nothing =
-        record { heading = refl; parties = refl; fixed = refl; refixed = refl; prices = refl; readings = refl; rising = λ p. refl }
+        record { heading = refl; parties = refl; fixed = refl; refixed = refl; prices = refl; readings = refl; rising = λ p. refl; kind = refl }
 
 -- one turn of the definition
 turn :
@@ -78,8 +78,9 @@ none-left setting (suc fuel) n m = refl
 same-sections : (m : MonthFile) (w : Walk) → Stands m w → sectionsOf m ≡ sectionsIn w
 unfolding sectionsOf
 same-sections m w st =
-    ap (λ (h : R.Heading). sectionsFor (record { area = h .area; year = h .year; month = h .month; hours = h .hours; parties = h .parties; carrier = h .carrier }) (length (m .refixed)) (length (m .readings))) (sym (st .heading))
-    ∙ ap₂ (λ (r g : ℕ). sectionsFor (w .heading) r g) (sym (st .refixed)) (sym (st .readings))
+    ap (λ (h : R.Heading). sectionsFor (record { area = h .area; year = h .year; month = h .month; hours = h .hours; parties = h .parties; carrier = h .carrier }) (kindOfTheLast (m .parties)) (length (m .refixed)) (length (m .readings))) (sym (st .heading))
+    ∙ ap (λ (k : ℕ). sectionsFor (w .heading) k (length (m .refixed)) (length (m .readings))) (sym (st .kind))
+    ∙ ap₂ (λ (r g : ℕ). sectionsFor (w .heading) (w .«party_kind») r g) (sym (st .refixed)) (sym (st .readings))
 
 -- "An empty or too long file is refused before all else, place 0"
 module _ (setting : Setting) (file : List ℕ) where

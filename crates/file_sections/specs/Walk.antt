@@ -7,31 +7,45 @@ use Rattle.answer.specs.Said.{named}
 use Rattle.record.specs.declared.Heading as CHeading
 use Rattle.setting.specs.Asked.{asked}
 use Rattle.setting.specs.declared.Setting.{Setting}
+use Rattle.file_step.specs.Walk.{kindOfTheLast}
 use Rattle.file_step.specs.declared.Walk.{Walk}
 use Rattle.file_sections.specs.declared.Sections.{Sections}
 use Rattle.file_sections.specs.declared.MonthRead.{MonthRead}
 use Rattle.file_sections.specs.declared.MonthRead.the-variants as M
 use Rattle.rules.specs.MonthFile.{MonthFile, readMonth}
+use Rattle.rules.specs.Record.{bodyLength}
 use Rattle.rules.specs.Refusals.{Answer, given, refusal}
 use Rattle.rules.specs.Setting.{provisional}
 
--- where each section starts, of so many parties, hours and refixed hours: the heading has 10 bytes, a party 22, an hour 36, a price 7
-abbrev pub sectionsFor : CHeading.Heading → ℕ → ℕ → Sections
-sectionsFor h refixed readings =
-    let fixed-at : ℕ = 10 + 22 * h .parties in
+-- where each section starts, of so many parties with records of this kind, hours and refixed hours: the heading has 10 bytes, an hour 36, a price 7
+abbrev pub sectionsFor : CHeading.Heading → ℕ → ℕ → ℕ → Sections
+sectionsFor h party-kind refixed readings =
+    let party-size : ℕ = 1 + bodyLength party-kind in
+    let fixed-at : ℕ = 10 + party-size * h .parties in
     let refixed-at : ℕ = fixed-at + 36 * h .hours in
     let prices-at : ℕ = refixed-at + 36 * refixed in
     let readings-at : ℕ = prices-at + 7 * h .hours in
-    record { heading = h; refixed = refixed; readings = readings; «parties_at» = 10; «fixed_at» = fixed-at; «refixed_at» = refixed-at; «prices_at» = prices-at; «readings_at» = readings-at }
+    record {
+      heading = h;
+      refixed = refixed;
+      readings = readings;
+      «party_size» = party-size;
+      «parties_at» = 10;
+      «fixed_at» = fixed-at;
+      «refixed_at» = refixed-at;
+      «prices_at» = prices-at;
+      «readings_at» = readings-at;
+    }
 
 abbrev pub sectionsIn : Walk → Sections
-sectionsIn w = sectionsFor (w .heading) (w .refixed) (w .readings)
+sectionsIn w = sectionsFor (w .heading) (w .«party_kind») (w .refixed) (w .readings)
 
 -- the same of a month that was read
 unfoldable pub sectionsOf : MonthFile → Sections
 sectionsOf m =
     sectionsFor
     (record { area = m .heading .area; year = m .heading .year; month = m .heading .month; hours = m .heading .hours; parties = m .heading .parties; carrier = m .heading .carrier })
+    (kindOfTheLast (m .parties))
     (length (m .refixed))
     (length (m .readings))
 

@@ -6,14 +6,17 @@ use file_step::Walk;
 use record::Heading;
 use setting::Setting;
 ghost use mathlib.Core.Path.{_≡_};
+ghost use Prim.Native.Nat.{_+_, _*_, _≤_};
 ghost use Rattle.file_step.specs.Walk.{Few};
 ghost use Rattle.file_sections.specs.Walk.{sectionsIn, Promised};
+ghost use Rattle.rules.specs.Record.{bodyLength};
 
-// An accepted file: its heading, how many refixed hours and readings it has, and where each section starts.
+// An accepted file: its heading, how many refixed hours and readings it has, how many bytes a party's record has, and where each section starts.
 pub struct Sections {
     pub heading: Heading,
     pub refixed: usize,
     pub readings: usize,
+    pub party_size: usize,
     pub parties_at: usize,
     pub fixed_at: usize,
     pub refixed_at: usize,
@@ -26,6 +29,23 @@ pub enum MonthRead {
     Refused(Refusal, usize),
 }
 
+// How many bytes a record of a kind has with its kind byte.
+fn size_of(kind: u8) -> usize
+    ensures value { λ n. ⌜ n ≡ 1 + bodyLength kind ⌝ }
+    ensures bound { λ n. ⌜ n ≤ 36 ⌝ }
+{
+    1 + record::body_length(kind)
+}
+
+// The place after the heading and so many parties, whose records have so many bytes each.
+fn after_parties(party_size: usize, parties: u8) -> usize
+    requires { ⌜ «party_size» ≤ 36 ⌝ }
+    ensures value { λ n. ⌜ n ≡ 10 + «party_size» * parties ⌝ }
+    ensures bound { λ n. ⌜ n ≤ 9190 ⌝ }
+{
+    record::HEADING_SIZE + party_size * (parties as usize)
+}
+
 // Where each section of a file starts, by what was counted.
 fn laid_out(w: Walk) -> Sections
     requires { ⌜ Few w ⌝ }
@@ -33,8 +53,8 @@ fn laid_out(w: Walk) -> Sections
 {
     let heading = w.heading;
     let hours = heading.hours as usize;
-    let parties = heading.parties as usize;
-    let fixed_at = record::HEADING_SIZE + record::PARTY_SIZE * parties;
+    let party_size = size_of(w.party_kind);
+    let fixed_at = after_parties(party_size, heading.parties);
     let refixed_at = fixed_at + record::HOUR_SIZE * hours;
     let prices_at = refixed_at + record::HOUR_SIZE * w.refixed;
     let readings_at = prices_at + record::PRICE_SIZE * hours;
@@ -42,6 +62,7 @@ fn laid_out(w: Walk) -> Sections
         heading,
         refixed: w.refixed,
         readings: w.readings,
+        party_size,
         parties_at: record::HEADING_SIZE,
         fixed_at,
         refixed_at,

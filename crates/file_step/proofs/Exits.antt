@@ -16,10 +16,11 @@ use Rattle.answer.specs.declared.Answer.{Answer}
 use Rattle.answer.specs.declared.Answer.the-variants as AV
 use Rattle.answer.specs.declared.Refusal.{Refusal}
 use Rattle.answer.specs.declared.Refusal.the-variants.{UnknownKind, FileFault, OutOfOrder, GlnFault, WrongCount}
-use Rattle.gln.specs.Gln.{glnPart, glnAnswer}
+use Rattle.gln.specs.Gln.{glnAnswer}
 use Rattle.gln.specs.declared.Gln.{Gln}
 use Rattle.gln.specs.declared.Gln.the-variants.{Valid, Invalid}
-use Rattle.record.specs.Record.{recordOf, glnBytes, faultOf, Whole}
+use Rattle.record.specs.Record.{recordOf, glns, glnsIn, faultOf, Whole}
+use Rattle.record.specs.declared.Brp.{Brp}
 use Rattle.record.specs.declared.Record.{Record}
 use Rattle.record.specs.declared.Record.the-variants.{Heading, Party, FixedHour, Reading, Price, RefixedHour, End}
 use Rattle.file_step.specs.declared.Walk.{Walk}
@@ -44,17 +45,17 @@ module _ (w : Walk) (bytes : List ℕ) (size : ℕ) (body : size ≡ R.bodyLengt
       let four : R.bodyLength (R.kindAt bytes) ≡ 4 = length-of-record (R.kindAt bytes) (R.cutInto (R.fieldWidths (R.kindAt bytes)) (drop 1 bytes)) known ∙ ap lengthOf (sym is) in
       (four, omega (arith, body))
 
-  party-moves : (share : ℕ) (g : Gln) → StepMoves w bytes (risenIn w (Party share) g size)
-  party-moves share (Valid number) = risen (rises w number)
+  party-moves : (brp : Brp) (share : ℕ) (g : Gln) → StepMoves w bytes (risenIn w (Party brp share) g size)
+  party-moves brp share (Valid number) = risen (rises w number)
     where
-      risen : (t : Bool) → StepMoves w bytes (cond t (movedIn w (Party share) number size) (S.Refused GlnFault (w .records)))
+      risen : (t : Bool) → StepMoves w bytes (cond t (movedIn w (Party brp share) number size) (S.Refused GlnFault (w .records)))
       risen true = (one-further .0, refl, omega (arith, c), one-further .1, refl)
       risen false = tt
-  party-moves share Invalid = tt
+  party-moves brp share Invalid = tt
 
-  moves-on : (x : Record) → recordOf (glnBytes bytes) x ≡ R.recordAt bytes → (gln : List ℕ) → StepMoves w bytes (judgedIn w x gln size)
+  moves-on : (x : Record) → recordOf (glnsIn bytes) x ≡ R.recordAt bytes → (gln : List ℕ) → StepMoves w bytes (judgedIn w x gln size)
   moves-on (Heading h) is gln = (one-further .0, refl, omega (arith, c), one-further .1, refl)
-  moves-on (Party share) is gln = party-moves share (glnAnswer gln)
+  moves-on (Party brp share) is gln = party-moves brp share (glnAnswer gln)
   moves-on (FixedHour hour f) is gln = (one-further .0, refl, omega (arith, c), one-further .1, refl)
   moves-on (Reading r) is gln = (one-further .0, refl, omega (arith, c), one-further .1, refl)
   moves-on (Price hour p) is gln = (one-further .0, refl, omega (arith, c), one-further .1, refl)
@@ -67,7 +68,7 @@ module _ (w : Walk) (bytes : List ℕ) (size : ℕ) (body : size ≡ R.bodyLengt
 
 -- what a party comes to, by the test of its GLN
 pub of-a-party :
-    (w : Walk) (gln : List ℕ) (size : ℕ) {r : Record} {share : ℕ} {g : Gln} {s : Step} → r ≡ Party share → g ≡ glnAnswer gln
+    (w : Walk) (gln : List ℕ) (size : ℕ) {r : Record} {brp : Brp} {share : ℕ} {g : Gln} {s : Step} → r ≡ Party brp share → g ≡ glnAnswer gln
     → s ≡ risenIn w r g size
     → s ≡ judgedIn w r gln size
 of-a-party w gln size is tested e =
@@ -84,7 +85,7 @@ pub others :
     (w : Walk) (gln : List ℕ) (size : ℕ) (r : Record) → OneOf (0 ∷ 2 ∷ 3 ∷ 4 ∷ 5 ∷ []) (tagOf RecordType.the-type r)
     → movedIn w r 0 size ≡ judgedIn w r gln size
 others w gln size (Heading h) t = refl
-others w gln size (Party share) t = absurd (none-of 1 (λ q. omega arith) (λ q. omega arith) (λ q. omega arith) (λ q. omega arith) (λ q. omega arith) t)
+others w gln size (Party brp share) t = absurd (none-of 1 (λ q. omega arith) (λ q. omega arith) (λ q. omega arith) (λ q. omega arith) (λ q. omega arith) t)
 others w gln size (FixedHour hour f) t = refl
 others w gln size (Reading r) t = refl
 others w gln size (Price hour p) t = refl
@@ -105,13 +106,13 @@ pub record Standing (w : Walk) (bytes : List ℕ) (size : ℕ) : Type 0 where
 -- it was decoded, and is due;
 pub record Due (w : Walk) (bytes : List ℕ) (size : ℕ) (r : Record) : Type 0 where
   pub standing : Standing w bytes size
-  pub is : recordOf (glnBytes bytes) r ≡ R.recordAt bytes
+  pub is : recordOf (glnsIn bytes) r ≡ R.recordAt bytes
   pub due : dueIn w r ≡ true
 
 -- and its fields were judged.
 pub record Judged (w : Walk) (bytes : List ℕ) (size : ℕ) (r : Record) (a : Answer) : Type 0 where
   pub due : Due w bytes size r
-  pub says : said a ≡ faultOf (w .heading .hours) (w .heading .parties) (glnBytes bytes) r (w .records)
+  pub says : said a ≡ faultOf (w .heading .hours) (w .heading .parties) (glnsIn bytes) r (w .records)
 
 module _ {w : Walk} {bytes : List ℕ} {size : ℕ} where
   pub sized : Steppable w bytes → size ≡ R.bodyLength (getD bytes 0 0) → Sized w bytes size
@@ -141,20 +142,20 @@ module _ {w : Walk} {bytes : List ℕ} {size : ℕ} where
     pub decodable : Whole bytes
     decodable = record { known-kind = known-kind; fits = whole-fits }
 
-    module _ (r : Record) (is : recordOf (glnBytes bytes) r ≡ R.recordAt bytes) {d : Bool} (d-is : d ≡ dueIn w r) where
+    module _ (r : Record) (is : recordOf (glnsIn bytes) r ≡ R.recordAt bytes) {d : Bool} (d-is : d ≡ dueIn w r) where
       pub exit-order : not d ≡ true → Stepped w bytes (S.Refused OutOfOrder (w .records))
       exit-order e = record { means = λ m st. G.not-due m w st bytes (k .some) whole-fits r is (sym d-is ∙ not-true d e); moves = tt }
 
       pub due : not d ≡ false → Due w bytes size r
       due e = record { standing = k; is = is; due = sym d-is ∙ not-false d e }
 
-  module _ {r : Record} {part : List ℕ} {a : Answer} where
+  module _ {r : Record} {gln brpGln : List ℕ} {a : Answer} where
     pub judged :
-        Due w bytes size r → part ≡ glnPart bytes 1 → said a ≡ faultOf (w .heading .hours) (w .heading .parties) part r (w .records)
+        Due w bytes size r → gln ≡ glnsIn bytes .gln → brpGln ≡ glnsIn bytes .brpGln
+        → said a ≡ faultOf (w .heading .hours) (w .heading .parties) (glns gln brpGln) r (w .records)
         → Judged w bytes size r a
-    unfolding glnBytes
-    judged k part-is a-says =
-        record { due = k; says = a-says ∙ ap (λ (l : List ℕ). faultOf (w .heading .hours) (w .heading .parties) l r (w .records)) part-is }
+    judged k gln-is brp-is a-says =
+        record { due = k; says = a-says ∙ ap₂ (λ (g b : List ℕ). faultOf (w .heading .hours) (w .heading .parties) (glns g b) r (w .records)) gln-is brp-is }
 
   module _ {r : Record} {a : Answer} (j : Judged w bytes size r a) where
     k : Standing w bytes size
@@ -165,18 +166,17 @@ module _ {w : Walk} {bytes : List ℕ} {size : ℕ} where
         record { means = λ m st. G.faulty m w st bytes (k .some) (whole-fits k) r (j .due .is) (j .due .due) a (j .says) e; moves = tt }
 
     module _ (done : a ≡ AV.Done) where
-      sound : faultOf (w .heading .hours) (w .heading .parties) (glnBytes bytes) r (w .records) ≡ accepted
+      sound : faultOf (w .heading .hours) (w .heading .parties) (glnsIn bytes) r (w .records) ≡ accepted
       sound = sym (j .says) ∙ ap said done
 
-      judged-stepped : Stepped w bytes (judgedIn w r (glnBytes bytes) size)
+      judged-stepped : Stepped w bytes (judgedIn w r (glnsIn bytes .gln) size)
       judged-stepped =
           let further = moves-on w bytes size (k .sized .body) (k .fits) (k .sized .asked .few .counted) (known-kind k) r (j .due .is) in
-          record { means = λ m st. G.judged-means m w st bytes (k .some) (whole-fits k) r (j .due .is) (j .due .due) sound size; moves = further (glnBytes bytes) }
+          record { means = λ m st. G.judged-means m w st bytes (k .some) (whole-fits k) r (j .due .is) (j .due .due) sound size; moves = further (glnsIn bytes .gln) }
 
-      pub exit-judged : {part : List ℕ} → part ≡ glnPart bytes 1 → {s : Step} → s ≡ judgedIn w r part size → Stepped w bytes s
-      unfolding glnBytes
-      exit-judged part-is {s} is =
-          subst (λ (z : Step). Stepped w bytes z) (sym (is ∙ ap (λ (l : List ℕ). judgedIn w r l size) part-is)) judged-stepped
+      pub exit-judged : {gln : List ℕ} → gln ≡ glnsIn bytes .gln → {s : Step} → s ≡ judgedIn w r gln size → Stepped w bytes s
+      exit-judged gln-is {s} is =
+          subst (λ (z : Step). Stepped w bytes z) (sym (is ∙ ap (λ (l : List ℕ). judgedIn w r l size) gln-is)) judged-stepped
 
     pub judged-asks : (size ≤ 35) × Few w
     judged-asks = (omega (arith, k .sized .body, body-short (R.kindAt bytes)), k .sized .asked .few)

@@ -1,6 +1,6 @@
 -- How far the reading of a file has come, by numbers, and what month read so far it stands for; what one record more then does.
 use mathlib.Core.Bool.{Bool, true, false, cond, _&&_, _||_}
-use mathlib.Core.List.{List}
+use mathlib.Core.List.{List, [], _∷_}
 use mathlib.Core.Path.{_≡_}
 use Prim.Native.Nat.{ℕ, _+_, _≤_, _<_}
 use lib.Dec.{eqb, leb, ltb}
@@ -10,7 +10,7 @@ use Rattle.answer.specs.declared.Refusal.the-variants.{GlnFault, WrongCount}
 use Rattle.gln.specs.Gln.{glnAnswer}
 use Rattle.gln.specs.declared.Gln.{Gln}
 use Rattle.gln.specs.declared.Gln.the-variants.{Valid, Invalid}
-use Rattle.record.specs.Record.{headingOf}
+use Rattle.record.specs.Record.{kindOfBrp, headingOf}
 use Rattle.record.specs.declared.Record.{Record}
 use Rattle.record.specs.declared.Record.the-variants.{Heading, Party, FixedHour, Reading, Price, RefixedHour, End}
 use Rattle.setting.specs.Asked.{asked}
@@ -38,12 +38,13 @@ startOf setting =
       prices = 0;
       readings = 0;
       «last_gln» = 0;
+      «party_kind» = 0;
     }
 
 -- the order of the records, by numbers: law `due-is` reads it as the rules' `due`
 abbrev pub dueIn : Walk → Record → Bool
 dueIn w (Heading h) = eqb (w .heading .hours) 0
-dueIn w (Party share) = ltb (w .parties) (w .heading .parties)
+dueIn w (Party brp share) = ltb (w .parties) (w .heading .parties) && (eqb (w .parties) 0 || eqb (w .«party_kind») (kindOfBrp brp))
 dueIn w (FixedHour hour f) = eqb (w .parties) (w .heading .parties) && ltb (w .fixed) (w .heading .hours) && eqb hour (w .fixed)
 dueIn w (Reading r) = leb 1 (w .heading .hours) && eqb (w .prices) (w .heading .hours)
 dueIn w (Price hour p) =
@@ -54,7 +55,7 @@ dueIn w (RefixedHour hour f) =
     eqb (w .fixed) (w .heading .hours) && ltb (w .refixed) (w .heading .hours) && eqb (w .prices) 0 && eqb hour (w .refixed)
 dueIn w (End count) = leb 1 (w .heading .hours) && eqb (w .prices) (w .heading .hours)
 
--- with one record more; of a party the number of its GLN is kept
+-- with one record more; of a party the number of its GLN and its record's kind are kept
 abbrev pub withIn : Walk → Record → ℕ → Walk
 withIn w (Heading h) number =
     record {
@@ -67,8 +68,9 @@ withIn w (Heading h) number =
       prices = w .prices;
       readings = w .readings;
       «last_gln» = w .«last_gln»;
+      «party_kind» = w .«party_kind»;
     }
-withIn w (Party share) number =
+withIn w (Party brp share) number =
     record {
       setting = w .setting;
       records = w .records + 1;
@@ -79,6 +81,7 @@ withIn w (Party share) number =
       prices = w .prices;
       readings = w .readings;
       «last_gln» = number;
+      «party_kind» = kindOfBrp brp;
     }
 withIn w (FixedHour hour f) number =
     record {
@@ -91,6 +94,7 @@ withIn w (FixedHour hour f) number =
       prices = w .prices;
       readings = w .readings;
       «last_gln» = w .«last_gln»;
+      «party_kind» = w .«party_kind»;
     }
 withIn w (Reading r) number =
     record {
@@ -103,6 +107,7 @@ withIn w (Reading r) number =
       prices = w .prices;
       readings = w .readings + 1;
       «last_gln» = w .«last_gln»;
+      «party_kind» = w .«party_kind»;
     }
 withIn w (Price hour p) number =
     record {
@@ -115,6 +120,7 @@ withIn w (Price hour p) number =
       prices = w .prices + 1;
       readings = w .readings;
       «last_gln» = w .«last_gln»;
+      «party_kind» = w .«party_kind»;
     }
 withIn w (RefixedHour hour f) number =
     record {
@@ -127,6 +133,7 @@ withIn w (RefixedHour hour f) number =
       prices = w .prices;
       readings = w .readings;
       «last_gln» = w .«last_gln»;
+      «party_kind» = w .«party_kind»;
     }
 withIn w (End count) number =
     record {
@@ -139,6 +146,7 @@ withIn w (End count) number =
       prices = w .prices;
       readings = w .readings;
       «last_gln» = w .«last_gln»;
+      «party_kind» = w .«party_kind»;
     }
 
 -- no more of any kind than records
@@ -154,6 +162,12 @@ pub record Few (w : Walk) : Type 0 where
   pub records : w .records < longestFile
   pub counted : Counted w
 
+-- the kind of the last party's record; 0 where there is none
+unfoldable pub kindOfTheLast : List RRecord.Party → ℕ
+kindOfTheLast [] = 0
+kindOfTheLast (q ∷ []) = RRecord.partyKindOf (q .brp)
+kindOfTheLast (q ∷ (q′ ∷ qs)) = kindOfTheLast (q′ ∷ qs)
+
 -- the month read so far that the numbers stand for
 pub record Stands (m : MonthFile) (w : Walk) : Type 0 where
   pub heading : headingOf (w .heading) ≡ m .heading
@@ -163,6 +177,7 @@ pub record Stands (m : MonthFile) (w : Walk) : Type 0 where
   pub prices : w .prices ≡ length (m .prices)
   pub readings : w .readings ≡ length (m .readings)
   pub rising : (p : RRecord.Party) → risesAfter (m .parties) p ≡ eqb (w .parties) 0 || ltb (w .«last_gln») (digitsOnto 0 (p .gln))
+  pub kind : w .«party_kind» ≡ kindOfTheLast (m .parties)
 
 -- what a step says of the record at the start of the bytes, for the month that has been read so far
 abbrev pub StepMeans : Walk → List ℕ → MonthFile → Step → Type 0
@@ -205,7 +220,7 @@ countedIn w count = cond (eqb count (w .records)) S.End (S.Refused WrongCount (w
 -- the last of a record's checks, and what it comes to
 abbrev pub judgedIn : Walk → Record → List ℕ → ℕ → Step
 judgedIn w (Heading h) gln size = movedIn w (Heading h) 0 size
-judgedIn w (Party share) gln size = risenIn w (Party share) (glnAnswer gln) size
+judgedIn w (Party brp share) gln size = risenIn w (Party brp share) (glnAnswer gln) size
 judgedIn w (FixedHour hour f) gln size = movedIn w (FixedHour hour f) 0 size
 judgedIn w (Reading r) gln size = movedIn w (Reading r) 0 size
 judgedIn w (Price hour p) gln size = movedIn w (Price hour p) 0 size

@@ -11,7 +11,7 @@ ghost use Prim.Native.Nat.{_≤_};
 ghost use Rattle.file_step.specs.Walk.{startOf, dueIn, withIn, Few, Steppable, Stepped, movedIn, risenIn, countedIn, judgedIn};
 
 // How far the reading of a file has come: under which setting it is read, the records before, the heading (H and P are 0 until it is read), how many of each
-// kind, and the number of the last GLN.
+// kind, and of the last party the number of its GLN and its record's kind.
 pub struct Walk {
     pub setting: Setting,
     pub records: usize,
@@ -22,6 +22,7 @@ pub struct Walk {
     pub prices: usize,
     pub readings: usize,
     pub last_gln: u64,
+    pub party_kind: u8,
 }
 
 // What one record does: the reading goes on so many bytes further, ends, or is refused.
@@ -52,10 +53,12 @@ pub fn start(setting: Setting) -> Walk
         prices: 0,
         readings: 0,
         last_gln: 0,
+        party_kind: 0,
     }
 }
 
-// "Order: one 01; P times 02; H times 03; none or H times 06; H times 05; any number of 04; one 07. Hour fields run 0, 1, 2 and so on"
+// "Order: one 01; P times 02; H times 03; none or H times 06; H times 05; any number of 04; one 07. Hour fields run 0, 1, 2 and so on". W5: "a mixture of 02 and
+// 12 is 3".
 fn due(w: Walk, r: Record) -> bool
     ensures { λ d. ⌜ d ≡ dueIn w r ⌝ }
 {
@@ -63,7 +66,8 @@ fn due(w: Walk, r: Record) -> bool
     let parties = w.heading.parties as usize;
     match r {
         Record::Heading(_) => hours == 0,
-        Record::Party(_) => w.parties < parties,
+        Record::Party(brp, _) => (w.parties < parties)
+            & ((w.parties == 0) | (w.party_kind == record::party_kind(brp))),
         Record::FixedHour(hour, _) => (w.parties == parties)
             & (w.fixed < hours)
             & (hour as usize == w.fixed),
@@ -80,7 +84,7 @@ fn due(w: Walk, r: Record) -> bool
     }
 }
 
-// Where the reading stands with one record more. Of a party the number of its GLN is kept.
+// Where the reading stands with one record more. Of a party the number of its GLN and its record's kind are kept.
 fn with(w: Walk, r: Record, gln_number: u64) -> Walk
     requires { ⌜ Few w ⌝ }
     ensures { λ v. ⌜ v ≡ withIn w r «gln_number» ⌝ }
@@ -89,9 +93,10 @@ fn with(w: Walk, r: Record, gln_number: u64) -> Walk
     v.records = w.records + 1;
     match r {
         Record::Heading(h) => v.heading = h,
-        Record::Party(_) => {
+        Record::Party(brp, _) => {
             v.parties = w.parties + 1;
             v.last_gln = gln_number;
+            v.party_kind = record::party_kind(brp);
         }
         Record::FixedHour(_, _) => v.fixed = w.fixed + 1,
         Record::Reading(_) => v.readings = w.readings + 1,
@@ -120,8 +125,15 @@ impl Walk {
         if !due(self, r) {
             return Step::Refused(Refusal::OutOfOrder, records);
         }
-        let part = gln::part_at(rest, 1);
-        let a = record::fault(r, part, self.heading.hours, self.heading.parties, records);
+        let part = record::gln_in(rest);
+        let a = record::fault(
+            r,
+            part,
+            record::brp_gln_in(rest),
+            self.heading.hours,
+            self.heading.parties,
+            records,
+        );
         if let Answer::Refused(x, place) = a {
             return Step::Refused(x, place);
         }
@@ -170,7 +182,7 @@ fn judged(w: Walk, r: Record, part: &[u8], size: usize) -> Step
     ensures { λ s. ⌜ s ≡ judgedIn w r (now (part .entry)) size ⌝ }
 {
     match r {
-        Record::Party(_) => risen(w, r, gln::check(part), size),
+        Record::Party(_, _) => risen(w, r, gln::check(part), size),
         Record::End(count) => counted(w, count),
         _ => moved(w, r, 0, size),
     }

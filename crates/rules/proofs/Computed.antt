@@ -15,7 +15,7 @@ use Rattle.rules.specs.Services.{curveAt, curveFigures, distributionChec
 use Rattle.rules.specs.Services.{reconciliationChecks, reconciliationLoss, reconciliationDifferences, amountAt, reconciliationAmounts, invoiceChecks, invoiceFigures}
 use Rattle.rules.specs.Record.{layouts, widthsIn, fieldWidths, totalOf, bodyLength, known, numberOnto, bytesOf, signed, unsigned, cutInto, field, numberAt, signedAt, headingFrom}
 use Rattle.rules.specs.Record.{flowsFrom, partyFrom, readingFrom, neverAsked, recordFrom, kindAt, recordAt, fieldBytes, inWidths, hourFields, weightFields, fieldsOf, recordBytes, nothingYet, H, P, with}
-use Rattle.rules.specs.Record.{brpFields, due, likeTheFirst, risesAfter, headingInRange, hourInRange, checks, readAlone, writeVerdict, written}
+use Rattle.rules.specs.Record.{brpFields, due, afterTheLast, alikeAfter, risesAfter, headingInRange, hourInRange, checks, readAlone, writeVerdict, written}
 use Rattle.rules.specs.PlainRecord.{noSign, nthNoSign, plainHeading, plainFlows, plainReading, plainRecord, standIn, fieldsHold, plainVerdict}
 use Rattle.rules.specs.MonthFile.{recordChecks, isEnd, closed, onward, readOn, readMonth}
 use Rattle.rules.specs.Month.{partyAt, flowsAt, readingAt, priceAt, shareOf, monthW, fixedWh, appliedFlows, appliedWh, curve, distributed, weightOf, S, weightBefore, wholeWeight}
@@ -84,7 +84,7 @@ unfolding partyFrom readingFrom neverAsked recordFrom kindAt recordAt fieldBytes
 records-2 = tt
 
 unfoldable pub records-3 : Unit {0}
-unfolding brpFields likeTheFirst headingInRange hourInRange checks readAlone writeVerdict written
+unfolding brpFields afterTheLast alikeAfter headingInRange hourInRange checks readAlone writeVerdict written
 records-3 = tt
 
 unfoldable pub records : Unit {0}

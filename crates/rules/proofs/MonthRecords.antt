@@ -12,7 +12,7 @@ use lib.IntN.{ℤ}
 use lib.ListN.{length, length-append}
 use Rattle.rules.specs.Flows.{Flows}
 use Rattle.rules.specs.Limits.{greatestShare, greatestEnergy}
-use Rattle.rules.specs.MonthFile.{MonthFile, nothingYet, H, P, due, likeTheFirst, risesAfter, with, isEnd}
+use Rattle.rules.specs.MonthFile.{MonthFile, nothingYet, H, P, due, afterTheLast, alikeAfter, risesAfter, with, isEnd}
 use Rattle.rules.specs.Record.{partyKindOf, Party, Reading, Record, heading, party, fixedHour, reading, price, refixedHour, end, inFile, headingInRange, hourInRange, checks}
 use Rattle.rules.specs.ReadingRefused.{Passes, AllPass, withAll}
 use Rattle.rules.specs.Refusals.{unless, andThen, first}
@@ -93,7 +93,7 @@ module _ (m : MonthFile) where
   unfolding recordsOf with due isEnd H P
   one-more s some (heading h) go d = absurd (omega (arith, eqb-true (m .heading .hours) 0 d))
   one-more s some (party p) go d =
-      let tests = both-pass (ltb (length (m .parties)) (P m)) (likeTheFirst (m .parties) p) d in
+      let tests = both-pass (ltb (length (m .parties)) (P m)) (alikeAfter (m .parties) p) d in
       let none = parties-due (s .counts) (ltb-true (length (m .parties)) (P m) (tests .0)) in
       ap (λ (t : List Record). heading (m .heading) ∷ t)
       (at-its-end (numbered asParty 0 (m .parties)) _ from-fixed (party p) (next-numbered asParty (m .parties) p {k = length (m .parties)} refl)
@@ -208,16 +208,21 @@ not-the-last : {A : Type 0} (done : List A) (x : A) (later : List A) {all : List
 not-the-last done x later e size = omega (arith, ap length e, length-append done (x ∷ later))
 
 rises-there : (done : List Party) (x : Party) (later : List Party) → Rising (done ++ (x ∷ later)) → risesAfter done x ≡ true
-unfolding risesAfter
+unfolding risesAfter afterTheLast
 rises-there [] x later h = refl
 rises-there (q ∷ []) x later h = rises-strictly (q .gln) (x .gln) .1 (h .0 .0)
 rises-there (q ∷ (q′ ∷ done)) x later h = rises-there (q′ ∷ done) x later (h .1)
 
--- a party after others of one kind is like the first
-alike-there : (done : List Party) (x : Party) (later : List Party) → OneKind (done ++ (x ∷ later)) → likeTheFirst done x ≡ true
-unfolding likeTheFirst
+-- a party among others of one kind is like the one before it
+alike-there : (done : List Party) (x : Party) (later : List Party) → OneKind (done ++ (x ∷ later)) → alikeAfter done x ≡ true
+unfolding alikeAfter afterTheLast
 alike-there [] x later k = refl
-alike-there (q ∷ done) x later k = eq-eqb (partyKindOf (q .brp)) (partyKindOf (x .brp)) (there (SameKind q) done x later k)
+alike-there (q ∷ []) x later k = eq-eqb (partyKindOf (q .brp)) (partyKindOf (x .brp)) (k .0)
+alike-there (q ∷ (q′ ∷ done)) x later k = alike-there (q′ ∷ done) x later (all-like-the-next q q′ (done ++ (x ∷ later)) k)
+  where
+    all-like-the-next : (a b : Party) (l : List Party) → Every (SameKind a) (b ∷ l) → Every (SameKind b) l
+    all-like-the-next a b [] e = tt
+    all-like-the-next a b (c ∷ l) e = (sym (e .0) ∙ e .1 .0, all-like-the-next a b l (e .0, e .1 .1))
 
 either-way : (a : Bool) {b : Bool} → b ≡ true → a || b ≡ true
 either-way true e = refl
@@ -248,7 +253,7 @@ module _ (m : MonthFile) (w : Whole m) (held : Every ReadingHeld (m .readings)) 
   unfolding isEnd due P checks first andThen unless
   party-passes done x later e n =
       let right : PartyRight x = there PartyRight done x later (subst (Every PartyRight) e (w .parties)) in
-      let like : likeTheFirst done x ≡ true = alike-there done x later (subst OneKind e (w .one-kind)) in
+      let like : alikeAfter done x ≡ true = alike-there done x later (subst OneKind e (w .one-kind)) in
       let rises-here : risesAfter done x ≡ true = rises-there done x later (subst Rising e (w .rising)) in
       record {
         not-the-end = refl;

@@ -14,7 +14,7 @@ use lib.ListN.{length, getD, drop, length-append, length-drop, List·getD-append
 use lib.Seq.{drop-drop, getD-at}
 use Rattle.rules.specs.Accepted.{NoneRefuses}
 use Rattle.rules.specs.Flows.{Flows}
-use Rattle.rules.specs.MonthFile.{MonthFile, nothingYet, H, P, due, likeTheFirst, recordChecks, with, isEnd, closed, readOn, readMonth}
+use Rattle.rules.specs.MonthFile.{MonthFile, nothingYet, H, P, due, alikeAfter, recordChecks, with, isEnd, closed, readOn, readMonth}
 use Rattle.rules.specs.Record.{Heading, Party, thisMonth, Reading, Record, heading, party, fixedHour, reading, price, refixedHour, end, bodyLength, known, fieldWidths}
 use Rattle.rules.specs.Record.{cutInto, kindAt, recordAt, inFile, headingInRange, checks}
 use Rattle.rules.specs.Refusals.{given, first}
@@ -104,6 +104,15 @@ unfolding sizesBefore
 one-size-more make [] x = omega arith
 one-size-more make (y ∷ l) x = omega (arith, one-size-more make l x)
 
+-- the bytes up to the next
+pub next-size : {A : Type 0} (make : A → Record) (l : List A) (k : ℕ) (d : A) → k < length l → sizesBefore make l (suc k) ≡ sizesBefore make l k + (1 + lengthOf (make (getD l k d)))
+unfolding sizesBefore
+next-size make [] k d b = absurd (omega arith)
+next-size make (x ∷ []) zero d b = omega arith
+next-size make (x ∷ []) (suc k) d b = absurd (omega arith)
+next-size make (x ∷ (y ∷ l)) zero d b = omega arith
+next-size make (x ∷ (y ∷ l)) (suc k) d b = omega (arith, next-size make (y ∷ l) k d (omega arith))
+
 -- records of one length: the k-th stands behind k times so many bytes
 pub equal-sizes : {A : Type 0} (make : A → Record) (size : ℕ) (l : List A) → Every (λ (x : A). 1 + lengthOf (make x) ≡ size) l → (k : ℕ) → k ≤ length l → sizesBefore make l k ≡ size * k
 unfolding sizesBefore
@@ -189,7 +198,7 @@ module _ (file : List ℕ) (m : MonthFile) (s : Sound m) (offset : ℕ) (p : Pla
   place-party : (x : Party) → due m (party x) ≡ true → Standing file offset (party x) → Placed file (with m (party x)) (offset + (1 + lengthOf (party x)))
   unfolding due with H P
   place-party x d here =
-      let tests = both-pass (ltb (length (m .parties)) (P m)) (likeTheFirst (m .parties) x) d in
+      let tests = both-pass (ltb (length (m .parties)) (P m)) (alikeAfter (m .parties) x) d in
       let none = parties-due (s .counts) (ltb-true (length (m .parties)) (P m) (tests .0)) in
       let there : offset ≡ partyOffset (m .parties) (length (m .parties)) =
       omega (arith, p .so-far (none .0), none .1, none .2, none .3, no-sizes reading (m .readings) (none .4)) in

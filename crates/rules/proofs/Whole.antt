@@ -16,7 +16,7 @@ use Rattle.rules.specs.Accepted.{NoneRefuses}
 use Rattle.rules.specs.Flows.{Flows, flowsInRange, silentIsZero}
 use Rattle.rules.specs.Gln.{validGln, rises, digitsOnto}
 use Rattle.rules.specs.Limits.{greatestArea, earliestYear, latestYear, monthsOfAYear, mostHours, mostParties, greatestShare, greatestEnergy, greatestPrice, longestFile}
-use Rattle.rules.specs.MonthFile.{MonthFile, nothingYet, H, P, due, likeTheFirst, risesAfter, recordChecks, with, isEnd, closed, onward, readOn, readMonth}
+use Rattle.rules.specs.MonthFile.{MonthFile, nothingYet, H, P, due, afterTheLast, alikeAfter, risesAfter, recordChecks, with, isEnd, closed, onward, readOn, readMonth}
 use Rattle.rules.specs.Record.{Heading, Party, Reading, Record, heading, party, fixedHour, reading, price, refixedHour, end, bodyLength, recordAt}
 use Rattle.rules.specs.Record.{brpGln, partyKindOf, inFile, headingInRange, hourInRange, checks}
 use Rattle.rules.specs.Refusals.{fileFault, Verdict, accepted, refused, Answer, given, refusal, first}
@@ -124,7 +124,7 @@ unfolding rises
 rises-strictly earlier later = (ltb-true (digitsOnto 0 earlier) (digitsOnto 0 later), lt-ltb (digitsOnto 0 earlier) (digitsOnto 0 later))
 
 above-all : (l : List Party) (p : Party) → Rising l → risesAfter l p ≡ true → Every (λ (q : Party). Below q p) l
-unfolding risesAfter
+unfolding risesAfter afterTheLast
 above-all [] p h e = tt
 above-all (q ∷ []) p h e = (rises-strictly (q .gln) (p .gln) .0 e, tt)
 above-all (q ∷ (q′ ∷ l)) p h e =
@@ -138,11 +138,16 @@ one-above (q ∷ l) p h a = (every-more (Below q) l p (h .0) (a .0), one-above l
 rising-more : (l : List Party) (p : Party) → Rising l → risesAfter l p ≡ true → Rising (l ++ (p ∷ []))
 rising-more l p h e = one-above l p h (above-all l p h e)
 
--- PARTIES OF ONE KIND: a record like the first one's keeps them so.
-one-kind-more : (l : List Party) (p : Party) → OneKind l → likeTheFirst l p ≡ true → OneKind (l ++ (p ∷ []))
-unfolding likeTheFirst
+-- PARTIES OF ONE KIND: a record like the last one's keeps them so.
+like-the-first : (q : Party) (l : List Party) (p : Party) → Every (SameKind q) l → alikeAfter (q ∷ l) p ≡ true → SameKind q p
+unfolding alikeAfter afterTheLast
+like-the-first q [] p k e = eqb-true (partyKindOf (q .brp)) (partyKindOf (p .brp)) e
+like-the-first q (x ∷ []) p k e = k .0 ∙ eqb-true (partyKindOf (x .brp)) (partyKindOf (p .brp)) e
+like-the-first q (x ∷ (y ∷ l)) p k e = like-the-first q (y ∷ l) p (k .1) e
+
+one-kind-more : (l : List Party) (p : Party) → OneKind l → alikeAfter l p ≡ true → OneKind (l ++ (p ∷ []))
 one-kind-more [] p k e = tt
-one-kind-more (q ∷ l) p k e = every-more (SameKind q) l p k (eqb-true (partyKindOf (q .brp)) (partyKindOf (p .brp)) e)
+one-kind-more (q ∷ l) p k e = every-more (SameKind q) l p k (like-the-first q l p k e)
 
 -- How many of each kind there are, of a file of h hours and p parties: a parties, f fixed and r refixed hours, q prices, g readings.
 pub record Counts (h p a f r q g : ℕ) : Type 0 where
@@ -314,7 +319,7 @@ module _ (m : MonthFile) (s : Sound m) (n : ℕ) where
   unfolding due with H P checks
   with-party p d c =
       let share : p .share ≤ greatestShare = leb-true (p .share) greatestShare (unless-exactly (leb (p .share) greatestShare) _ _ .0 (c .0)) in
-      let tests = both-pass (ltb (length (m .parties)) (P m)) (likeTheFirst (m .parties) p) d in
+      let tests = both-pass (ltb (length (m .parties)) (P m)) (alikeAfter (m .parties) p) d in
       let valid : validGln (p .gln) ≡ true = unless-exactly (validGln (p .gln)) _ _ .0 (c .1 .0) in
       let brp : validGln (brpGln p) ≡ true = unless-exactly (validGln (brpGln p)) _ _ .0 (c .1 .1 .0) in
       record {

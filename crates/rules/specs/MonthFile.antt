@@ -10,7 +10,7 @@ use Rattle.rules.specs.Refusals.{fileFault, unknownKind, outOfOrder, Ver
 use Rattle.rules.specs.Setting.{Setting}
 use Rattle.rules.specs.Words.{within}
 pub use Rattle.rules.specs.Record.{MonthFile}
-unfoldable pub use Rattle.rules.specs.Record.{nothingYet, H, P, with, due, likeTheFirst, risesAfter}
+unfoldable pub use Rattle.rules.specs.Record.{nothingYet, H, P, with, due, afterTheLast, alikeAfter, risesAfter}
 
 -- The checks of record number n, which stands at the start of the bytes that are left:
 -- "The file is read first, record by record: 2, then 1, 3, 4, 5, 11, 12, 15." (The setting is handed to each record, and decides nothing there: law

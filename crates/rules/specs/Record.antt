@@ -328,14 +328,21 @@ with m (end count) = m
 
 -- THE ORDER (3, "kind or hour field out of order"). "Order: one 01; P times 02; H times 03; none or H times 06; H times 05; any number of 04; one 07. Hour
 -- fields run 0, 1, 2 and so on": whether a record is due next. W3: an 08 "stands among the 04 records", in any order. W5: a 12 "may stand in place of 02 for all
--- parties of a file"; "a mixture of 02 and 12 is 3": a party's record is of the same kind as the first party's.
-unfoldable pub likeTheFirst : List Party → Party → Bool
-likeTheFirst [] p = true
-likeTheFirst (q ∷ qs) p = eqb (partyKindOf (q .brp)) (partyKindOf (p .brp))
+-- parties of a file"; "a mixture of 02 and 12 is 3": a party's record is of the kind of the party's before it.
+unfoldable pub afterTheLast : (Party → Party → Bool) → List Party → Party → Bool
+afterTheLast test [] p = true
+afterTheLast test (q ∷ []) p = test q p
+afterTheLast test (q ∷ (q′ ∷ qs)) p = afterTheLast test (q′ ∷ qs) p
+
+abbrev pub alike : Party → Party → Bool
+alike q p = eqb (partyKindOf (q .brp)) (partyKindOf (p .brp))
+
+unfoldable pub alikeAfter : List Party → Party → Bool
+alikeAfter parties p = afterTheLast alike parties p
 
 unfoldable pub due : MonthFile → Record → Bool
 due m (heading h) = eqb (H m) 0
-due m (party p) = ltb (length (m .parties)) (P m) && likeTheFirst (m .parties) p
+due m (party p) = ltb (length (m .parties)) (P m) && alikeAfter (m .parties) p
 due m (fixedHour hour f) = eqb (length (m .parties)) (P m) && ltb (length (m .fixed)) (H m) && eqb hour (length (m .fixed))
 due m (refixedHour hour f) =
     eqb (length (m .fixed)) (H m) && ltb (length (m .refixed)) (H m) && eqb (length (m .prices)) 0
@@ -371,9 +378,7 @@ placeOf (byItself hours parties place) = place
 -- "GLNs rise strictly.": a party's GLN is above that of the party before it. Of a record by itself "file order or rising GLNs" are not asked. W5:
 -- "BRP GLNs need not rise and may repeat."
 unfoldable pub risesAfter : List Party → Party → Bool
-risesAfter [] p = true
-risesAfter (q ∷ []) p = rises (q .gln) (p .gln)
-risesAfter (q ∷ (q′ ∷ qs)) p = risesAfter (q′ ∷ qs) p
+risesAfter parties p = afterTheLast (λ q p. rises (q .gln) (p .gln)) parties p
 
 abbrev pub risesAt : Position → Party → Bool
 risesAt (inFile m n) p = risesAfter (m .parties) p

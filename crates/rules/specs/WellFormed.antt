@@ -104,7 +104,7 @@ abbrev pub Rising : List Party → Type 0
 Rising [] = Unit
 Rising (p ∷ later) = Every (Below p) later × Rising later
 
--- W5: "a mixture of 02 and 12 is 3": the parties' records are all of the first one's kind
+-- W5: "a mixture of 02 and 12 is 3": the parties' records are all of one kind, the first one's
 abbrev pub SameKind : Party → Party → Type 0
 SameKind p q = partyKindOf (p .brp) ≡ partyKindOf (q .brp)
 

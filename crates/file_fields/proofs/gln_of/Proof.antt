@@ -7,11 +7,11 @@ use Rattle.file_fields.proofs.gln_of.Tie as tie
 from-record-requires : tie.Need-from-record-requires
 from-record-requires c κs = R.party-room _ _ _ (c .before .pre)
 
-part-at-requires : tie.Need-part-at-requires
-part-at-requires c κs = search needs
+gln-in-requires : tie.Need-gln-in-requires
+gln-in-requires c κs = search needs
 
 returns : tie.Need-returns
-returns c = R.gln-is _ _ _ (c .before .before .before .pre) (c .part-at .ensures) (c .before .from-record .ensures)
+returns c = R.gln-is _ _ _ (c .before .before .before .pre) (c .before .from-record .ensures) (c .gln-in .ensures)
 
 pub gln-of-spec : {M : Type 1} → statement M
-gln-of-spec = tie.close (tie.spec from-record-requires part-at-requires returns)
+gln-of-spec = tie.close (tie.spec from-record-requires gln-in-requires returns)

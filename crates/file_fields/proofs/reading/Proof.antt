@@ -31,12 +31,12 @@ returns c =
 reading-in-requires : tie.Need-reading-in-requires
 reading-in-requires c κs =
     let start = c .before .before .before .before in
-    R.own-enough _ _ (start .pre) (from-there (start .args .file .now) (start .args .at)) (c .if1 .left)
+    R.short-enough _ _ (start .pre) (from-there (start .args .file .now) (start .args .at)) (c .if1 .left)
 
 returns-2 : tie.Need-returns-2
 returns-2 c =
     let start = c .before .before .before .before .before in
-    R.own-is _ _ (start .pre) (from-there (start .args .file .now) (start .args .at)) (c .before .if1 .left) (c .reading-in .ensures)
+    R.short-is _ _ (start .pre) (from-there (start .args .file .now) (start .args .at)) (c .before .if1 .left) (c .reading-in .ensures)
 
 pub reading-spec : {M : Type 1} → statement M
 reading-spec =
