@@ -17,6 +17,9 @@ pub mod Readings
 pub mod Plan
 pub mod Lines
 pub mod HoursReport
+pub mod DifferentOnes
+pub mod Brp
+pub mod GlnNumber
 mod Computed
 pub mod WorkedCases
 pub mod WorkedMonths
