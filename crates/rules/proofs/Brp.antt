@@ -55,7 +55,7 @@ unfolding sumForEachℤ sumForEach
 each-pos f [] = refl
 each-pos f (n ∷ more) = ap (λ (x : ℤ). pos (f n) +ℤ x) (each-pos f more)
 
-some-pos : (n : ℕ) (some : ℕ → Bool) (figure : ℕ → ℕ) → sumℤ n (onlyOfℤ some (λ i. pos (figure i))) ≡ pos (sum n (onlyOf some figure))
+pub some-pos : (n : ℕ) (some : ℕ → Bool) (figure : ℕ → ℕ) → sumℤ n (onlyOfℤ some (λ i. pos (figure i))) ≡ pos (sum n (onlyOf some figure))
 unfolding onlyOfℤ onlyOf
 some-pos n some figure = ap (sumℤ n) (fun-ext (λ i. of-one i (some i))) ∙ sumℤ-pos n (onlyOf some figure)
   where

@@ -19,6 +19,7 @@ pub mod Lines
 pub mod HoursReport
 pub mod DifferentOnes
 pub mod Brp
+pub mod BrpDemands
 pub mod GlnNumber
 mod Computed
 pub mod WorkedCases
