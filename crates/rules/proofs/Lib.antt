@@ -21,6 +21,7 @@ pub mod DifferentOnes
 pub mod Brp
 pub mod BrpDemands
 pub mod GlnNumber
+pub mod OwnBrps
 mod Computed
 pub mod WorkedCases
 pub mod WorkedMonths
