@@ -21,8 +21,8 @@ use Rattle.rules.proofs.DifferentOnes.{every-weaker, every-number, ever
 use Rattle.rules.proofs.Integers.{interchange, sumℤ-pos, sumℤ-zero, sumℤ-swap}
 use Rattle.rules.proofs.Sums.{sum-zero, sum-swap}
 
--- THE FIGURES BY NUMBER ADD UP TO THE FIGURES OF ALL: each figure is counted at its own number, and at no other
-
+-- THE FIGURES BY NUMBER ADD UP TO THE FIGURES OF ALL: each figure is counted at its own number, and at no other. First, sums over the numbers of a list: of nothing,
+-- and of two figures at each.
 each-noneℤ : (f : ℕ → ℤ) (l : List ℕ) → Every (λ (k : ℕ). f k ≡ pos 0) l → sumForEachℤ f l ≡ pos 0
 unfolding sumForEachℤ
 each-noneℤ f [] h = refl
@@ -63,6 +63,7 @@ some-pos n some figure = ap (sumℤ n) (fun-ext (λ i. of-one i (some i))) ∙ s
     of-one i true = refl
     of-one i false = refl
 
+-- over any rising list that has all the numbers
 module _ (of : ℕ → ℕ) (l : List ℕ) (rising : RisingNumbers l) where
   by-numberℤ : (n : ℕ) (figure : ℕ → ℤ) → ((i : ℕ) → i < n → InList (of i) l)
       → sumForEachℤ (λ k. sumℤ n (onlyOfℤ (λ i. eqb (of i) k) figure)) l ≡ sumℤ n figure
@@ -81,7 +82,7 @@ module _ (of : ℕ → ℕ) (l : List ℕ) (rising : RisingNumbers l) where
       ∙ by-numberℤ n (λ i. pos (figure i)) has
       ∙ sumℤ-pos n figure)
 
--- BY DIFFERENT NUMBER: of any figures
+-- over the different ones
 module _ (n : ℕ) (of : ℕ → ℕ) where
   pub adds-up-by-numberℤ : (figure : ℕ → ℤ) → sumForEachℤ (λ k. sumℤ n (onlyOfℤ (λ i. eqb (of i) k) figure)) (differentOnes n of) ≡ sumℤ n figure
   adds-up-by-numberℤ figure = by-numberℤ of (differentOnes n of) (ones-rise of n) n figure (each-is-in of n)

@@ -23,7 +23,7 @@ use Rattle.rules.specs.Statement.{headingLine, totalLine, joined}
 use Rattle.rules.specs.WellFormed.{Every, PartyRight, Below, Rising, Whole}
 use Rattle.rules.specs.Words.{sum, sumℤ, figures}
 use Rattle.rules.proofs.Brp.{some-pos, brp-month-distributed, brp-month-periodised, brp-month-loss, brp-month-difference}
-use Rattle.rules.proofs.DifferentOnes.{lines-more}
+use Rattle.rules.proofs.DifferentOnes.{every-weaker, lines-more}
 use Rattle.rules.proofs.GlnNumber.{gln-number}
 use Rattle.rules.proofs.Integers.{sumℤ-zero}
 use Rattle.rules.proofs.Lines.{joined-last}
@@ -149,8 +149,6 @@ own-brps setting file own = go (readMonth setting file) refl
 pub own-brps-of-02 :
     (setting : Setting) (file : List ℕ) → ((m : MonthFile) → readMonth setting file ≡ given m → Every (λ (p : Party). p .brp ≡ ownBrp) (m .parties))
     → statementPer perBrp setting file ≡ statementPer perParty setting file
-own-brps-of-02 setting file own = own-brps setting file (λ m e. each (m .parties) (own m e))
-  where
-    each : (l : List Party) → Every (λ (p : Party). p .brp ≡ ownBrp) l → Every (λ (p : Party). brpGln p ≡ p .gln) l
-    each [] h = tt
-    each (p ∷ l) h = (ap (brpGlnOf (p .gln)) (h .0), each l (h .1))
+own-brps-of-02 setting file own =
+    own-brps setting file
+    (λ m e. every-weaker (m .parties) (λ p (is-own : p .brp ≡ ownBrp). ap (brpGlnOf (p .gln)) is-own) (own m e))
