@@ -17,6 +17,11 @@ pub mod Readings
 pub mod Plan
 pub mod Lines
 pub mod HoursReport
+pub mod DifferentOnes
+pub mod Brp
+pub mod BrpDemands
+pub mod GlnNumber
+pub mod OwnBrps
 mod Computed
 pub mod WorkedCases
 pub mod WorkedMonths

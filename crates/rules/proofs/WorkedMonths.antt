@@ -1,10 +1,10 @@
 -- The worked months, each by computing the definitions from the file's bytes to the printed text.
 use mathlib.Core.Path.{refl}
-use Rattle.rules.specs.WorkedMonths.{fileOf, supply, partyOf, readingOf, longReadingOf, headingOf, S1, D3, wholeOre, begin, fixedHours, refixedHours, prices, small, unrefixed, closing, emptyFirst, opening, WorkedMonths}
+use Rattle.rules.specs.WorkedMonths.{fileOf, supply, partyOf, brpPartyOf, readingOf, longReadingOf, headingOf, S1, D3of, D3, D3brps, oreOf, wholeOre, oreBrps, begin, fixedHours, refixedHours, prices, small, unrefixed, closing, emptyFirst, opening, WorkedMonths}
 use Rattle.rules.proofs.Computed.{words, hours, parts, records, files, months, texts, reports}
 
 pub worked-months : WorkedMonths
-unfolding words hours parts records files months texts reports fileOf supply partyOf readingOf longReadingOf headingOf S1 D3 wholeOre begin fixedHours refixedHours prices small unrefixed closing emptyFirst opening
+unfolding words hours parts records files months texts reports fileOf supply partyOf brpPartyOf readingOf longReadingOf headingOf S1 D3of D3 D3brps oreOf wholeOre oreBrps begin fixedHours refixedHours prices small unrefixed closing emptyFirst opening
 worked-months =
     record {
       S1-lines = refl;
@@ -54,4 +54,14 @@ worked-months =
       not-refixed-before-W = refl;
       refused-6-provisional = refl;
       S1-preview = refl;
+      D3-brp-lines = refl;
+      D3-of-12 = refl;
+      ore-brp-lines = refl;
+      S1-brps = refl;
+      brps-refused = refl;
+      refused-3-12-after-02 = refl;
+      refused-3-02-after-12 = refl;
+      refused-5-brp = refl;
+      refused-5-brp-no-digits = refl;
+      range-before-brp = refl;
     }

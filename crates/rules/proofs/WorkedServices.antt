@@ -1,11 +1,11 @@
 -- The services' cases, each by computing the definitions.
 use mathlib.Core.Path.{refl}
-use Rattle.rules.specs.WorkedMonths.{supply, partyOf, readingOf, longReadingOf}
+use Rattle.rules.specs.WorkedMonths.{supply, partyOf, brpPartyOf, readingOf, longReadingOf}
 use Rattle.rules.specs.WorkedServices.{none, still, monthsOf, meter, planPart, WorkedServices}
 use Rattle.rules.proofs.Computed.{words, hours, parts, records, plains, services, plans}
 
 pub worked-services : WorkedServices
-unfolding words hours parts records plains services plans supply partyOf readingOf longReadingOf none still monthsOf meter planPart
+unfolding words hours parts records plains services plans supply partyOf brpPartyOf readingOf longReadingOf none still monthsOf meter planPart
 worked-services =
     record {
       hours-745 = refl;
@@ -49,6 +49,8 @@ worked-services =
       invoice-true-sum = refl;
       invoice-lent = refl;
       body-lengths = refl;
+      body-length-12 = refl;
+      bytes-12 = refl;
       alone-empty = refl;
       alone-unknown = refl;
       alone-cut = refl;
@@ -59,6 +61,9 @@ worked-services =
       alone-span = refl;
       alone-long-span = refl;
       alone-any-weights = refl;
+      alone-12 = refl;
+      alone-12-gln = refl;
+      alone-12-cut = refl;
       write-share-before-gln = refl;
       write-gln = refl;
       gs1-digits = refl;
@@ -73,6 +78,10 @@ worked-services =
       write-nothing-further-on = refl;
       write-any-weights = refl;
       write-long-short = refl;
+      write-12 = refl;
+      write-12-short = refl;
+      write-12-gln = refl;
+      write-12-share-before-gln = refl;
       plain-unknown = refl;
       plain-too-many = refl;
       plain-too-few = refl;
@@ -86,6 +95,9 @@ worked-services =
       plain-weights = refl;
       plain-weight-above = refl;
       plain-weight-below = refl;
+      plain-12 = refl;
+      plain-12-gln = refl;
+      plain-12-too-many = refl;
       plan-lines = refl;
       plan-passes = refl;
       plan-party = refl;

@@ -1,6 +1,7 @@
 -- Whole month files and what the rules give for each, from the file's bytes to the printed text: input S1 of 01 with its five lines, and the case D3 as a
 -- month, both with the reviewer's report; a month of parts of an øre (W2); a small month whose figures can be followed by hand, also with a reading over several
--- months (W3); and each refusal 1 to 15, 17 and 18 once, two faults at a time where an order shows. Proved in proofs/WorkedMonths, by computing the definitions.
+-- months (W3); two of these months by their BRPs (W5); and each refusal 1 to 15, 17 and 18 once, two faults at a time where an order shows. Proved in
+-- proofs/WorkedMonths, by computing the definitions.
 use mathlib.Core.List.{List, [], _∷_, _++_}
 use mathlib.Core.Path.{_≡_}
 use Prim.Native.Nat.{ℕ}
@@ -10,9 +11,9 @@ use lib.ListN.{take}
 use Rattle.rules.specs.Flows.{Flows}
 use Rattle.rules.specs.HoursReport.{hoursReport}
 use Rattle.rules.specs.Limits.{missing, measured, estimated}
-use Rattle.rules.specs.Record.{ownBrp, thisMonth, manyMonths, Record, heading, party, fixedHour, reading, price, refixedHour, end, recordBytes}
+use Rattle.rules.specs.Record.{ownBrp, namedBrp, thisMonth, manyMonths, Record, heading, party, fixedHour, reading, price, refixedHour, end, recordBytes}
 use Rattle.rules.specs.Setting.{final, provisional}
-use Rattle.rules.specs.Statement.{statement}
+use Rattle.rules.specs.Statement.{statement, brpStatement}
 use Rattle.rules.specs.Words.{ascii}
 
 -- the file of these records
@@ -26,6 +27,10 @@ supply status net = record { status = status; net = net; production = 0; hourly 
 
 unfoldable pub partyOf : String → ℕ → Record
 partyOf gln share = party (record { gln = ascii gln; brp = ownBrp; share = share })
+
+-- W5: a supplier with the GLN of its BRP
+unfoldable pub brpPartyOf : String → String → ℕ → Record
+brpPartyOf gln brp share = party (record { gln = ascii gln; brp = namedBrp (ascii brp); share = share })
 
 unfoldable pub readingOf : ℕ → ℕ → ℕ → ℕ → Record
 readingOf who a b e = reading (record { party = who; a = a; b = b; e = e; over = thisMonth })
@@ -68,15 +73,12 @@ S1 =
     ∷ [])
 
 -- The case D3 as a month: shares 6, 6 and 2, residuals 10 and 1, the second hour estimated; refixation changed nothing. examples/README.md works it out by hand; the file is
--- examples/d3.month.
-unfoldable pub D3 : List ℕ
-D3 =
+-- examples/d3.month. Its parties can be put in as 02 or as 12 records.
+unfoldable pub D3of : List Record → List ℕ
+D3of parties =
     fileOf
-    (headingOf 3 2016 6 2 3 1
-    ∷ partyOf "0000000000017" 6
-    ∷ partyOf "0000000000024" 6
-    ∷ partyOf "0000000000031" 2
-    ∷ fixedHour 0 (record { status = measured; net = pos 16; production = 3; hourly = 6; flex = 3 })
+    ((headingOf 3 2016 6 2 3 1 ∷ parties)
+    ++ (fixedHour 0 (record { status = measured; net = pos 16; production = 3; hourly = 6; flex = 3 })
     ∷ fixedHour 1 (record { status = estimated; net = negsuc 1; production = 8; hourly = 4; flex = 1 })
     ∷ refixedHour 0 (record { status = measured; net = pos 16; production = 3; hourly = 6; flex = 3 })
     ∷ refixedHour 1 (record { status = estimated; net = negsuc 1; production = 8; hourly = 4; flex = 1 })
@@ -85,20 +87,27 @@ D3 =
     ∷ readingOf 0 0 2 6
     ∷ readingOf 2 1 2 2
     ∷ end 12
+    ∷ []))
+
+unfoldable pub D3 : List ℕ
+D3 = D3of (partyOf "0000000000017" 6 ∷ partyOf "0000000000024" 6 ∷ partyOf "0000000000031" 2 ∷ [])
+
+-- W5: the same of two BRPs, whose GLNs fall and repeat
+unfoldable pub D3brps : List ℕ
+D3brps =
+    D3of
+    (brpPartyOf "0000000000017" "0000000000048" 6
+    ∷ brpPartyOf "0000000000024" "0000000000017" 6
+    ∷ brpPartyOf "0000000000031" "0000000000048" 2
     ∷ [])
 
 -- W2 as a month: exact amounts of 0.75, 0.5, -0.5, -1.25 and 0.5 øre, of which three øre are missing once they are rounded down, the last of them given by a tie.
 -- examples/README.md works it out by hand; the file is examples/ore.month.
-unfoldable pub wholeOre : List ℕ
-wholeOre =
+unfoldable pub oreOf : List Record → List ℕ
+oreOf parties =
     fileOf
-    (headingOf 5 2016 8 2 5 3
-    ∷ partyOf "0000000000017" 1
-    ∷ partyOf "0000000000024" 1
-    ∷ partyOf "0000000000031" 1
-    ∷ partyOf "0000000000048" 1
-    ∷ partyOf "0000000000055" 1
-    ∷ fixedHour 0 (supply measured (pos 10))
+    ((headingOf 5 2016 8 2 5 3 ∷ parties)
+    ++ (fixedHour 0 (supply measured (pos 10))
     ∷ fixedHour 1 (supply measured (pos 5))
     ∷ refixedHour 0 (supply measured (pos 10))
     ∷ refixedHour 1 (supply measured (pos 5))
@@ -111,6 +120,27 @@ wholeOre =
     ∷ readingOf 2 1 2 2
     ∷ readingOf 4 0 1 2
     ∷ end 18
+    ∷ []))
+
+unfoldable pub wholeOre : List ℕ
+wholeOre =
+    oreOf
+    (partyOf "0000000000017" 1
+    ∷ partyOf "0000000000024" 1
+    ∷ partyOf "0000000000031" 1
+    ∷ partyOf "0000000000048" 1
+    ∷ partyOf "0000000000055" 1
+    ∷ [])
+
+-- W5: the same of two BRPs, the first of the first two parties
+unfoldable pub oreBrps : List ℕ
+oreBrps =
+    oreOf
+    (brpPartyOf "0000000000017" "0000000000062" 1
+    ∷ brpPartyOf "0000000000024" "0000000000062" 1
+    ∷ brpPartyOf "0000000000031" "0000000000079" 1
+    ∷ brpPartyOf "0000000000048" "0000000000079" 1
+    ∷ brpPartyOf "0000000000055" "0000000000079" 1
     ∷ [])
 
 -- A month of two hours and two parties of equal shares; the second party's one reading runs over both hours. Its parts can be put in faulty.
@@ -270,3 +300,29 @@ pub record WorkedMonths : Type 0 where
   pub refused-6-provisional : statement provisional (unrefixed 0 0 (end 7 ∷ [])) ≡ ascii "refused 6 at 0\n"
   -- with 06 records the preview is the statement
   pub S1-preview : statement provisional S1 ≡ statement final S1
+  -- W5: "one line per BRP, in rising GLN order": 0000000000017 of the second supplier alone, then 0000000000048 of the first and the third. "between its heading and total
+  -- lines": the statement's, whose lines are as of 02 records.
+  pub D3-brp-lines :
+      brpStatement final D3brps
+      ≡ ascii
+      "area 003 2016-06 hours 2 parties 3 estimated 1\n0000000000017 5 0 3 -2 7\n0000000000048 6 8 0 2 -7\ntotal 11 8 3 0 0\n"
+  pub D3-of-12 : statement final D3brps ≡ statement final D3
+  -- W5: "its invoice the sum of their whole øre": 1 and 1 of exactly 0.75 and 0.5, so 2 and not what 1.25 would be rounded to
+  pub ore-brp-lines :
+      brpStatement final oreBrps
+      ≡ ascii "area 005 2016-08 hours 2 parties 5 estimated 0\n0000000000062 6 8 0 2 2\n0000000000079 9 6 1 -2 -2\ntotal 15 14 1 0 0\n"
+  -- W5: "A file with 02 records is still read, each party being its own BRP"
+  pub S1-brps : brpStatement final S1 ≡ statement final S1
+  pub brps-refused : brpStatement final (closing (end 7 ∷ [])) ≡ ascii "refused 17 at 0\n"
+  -- W5: "a mixture of 02 and 12 is 3", either way, and before the fields of the record that is of the other kind
+  pub refused-3-12-after-02 :
+      statement final (opening (headingOf 1 2020 1 2 2 0 ∷ partyOf "0000000000017" 1 ∷ brpPartyOf "0000000000024" "0000000000024" 1 ∷ [])) ≡ ascii "refused 3 at 2\n"
+  pub refused-3-02-after-12 :
+      statement final (opening (headingOf 1 2020 1 2 2 0 ∷ brpPartyOf "0000000000017" "0000000000024" 1 ∷ partyOf "0000000000018" 4000000001 ∷ []))
+      ≡ ascii "refused 3 at 2\n"
+  -- W5: "a bad BRP GLN is 5": a wrong check digit, or not digits; 4 before it
+  pub refused-5-brp : statement final (opening (headingOf 1 2020 1 2 2 0 ∷ brpPartyOf "0000000000017" "0000000000025" 1 ∷ [])) ≡ ascii "refused 5 at 1\n"
+  pub refused-5-brp-no-digits :
+      statement final (opening (headingOf 1 2020 1 2 2 0 ∷ brpPartyOf "0000000000017" "00000000000x4" 1 ∷ [])) ≡ ascii "refused 5 at 1\n"
+  pub range-before-brp :
+      statement final (opening (headingOf 1 2020 1 2 2 0 ∷ brpPartyOf "0000000000017" "0000000000025" 4000000001 ∷ [])) ≡ ascii "refused 4 at 1\n"

@@ -1,21 +1,21 @@
 -- The services alone, where orders and places show: 16 first, then 4 with its places, then each service's own; and one record read and written
 -- alone. Proved in proofs/WorkedServices, by computing the definitions.
-use mathlib.Core.List.{List, [], _∷_}
+use mathlib.Core.List.{List, [], _∷_, _++_}
 use mathlib.Core.Path.{_≡_}
 use Prim.Native.Nat.{ℕ, suc}
 use lib.IntN.{ℤ, pos, negsuc}
-use lib.ListN.{replicate}
+use lib.ListN.{replicate, take}
 use Rattle.rules.specs.Gln.{digitAtPosition, weightOfPosition, weightedDigit, weightedSum}
 use Rattle.rules.specs.PlainRecord.{plainVerdict}
 use Rattle.rules.specs.Plan.{LongReading, planned, planChecks}
-use Rattle.rules.specs.Record.{readingKind, priceKind, endKind, longReadingKind, manyMonths, Reading, fixedHour, price, end, bodyLength, recordBytes, readAlone}
+use Rattle.rules.specs.Record.{readingKind, priceKind, endKind, longReadingKind, brpPartyKind, manyMonths, Reading, fixedHour, price, end, bodyLength, recordBytes, readAlone}
 use Rattle.rules.specs.Record.{writeVerdict, written}
 use Rattle.rules.specs.Refusals.{fileFault, unknownKind, outOfRange, glnFault, wOutOfRange, missingHour, residualNegative, residualTooLarge}
 use Rattle.rules.specs.Refusals.{curveTooLarge, spanFault, energyTooLarge, nothingToFollow, periodisedTooLarge, wrongLength, accepted, refused, given}
 use Rattle.rules.specs.Refusals.{refusal, first}
 use Rattle.rules.specs.Services.{residualChecks, residualFigures, curveChecks, distributionChecks, periodisationChecks}
 use Rattle.rules.specs.Services.{reconciliationChecks, reconciliationLoss, reconciliationDifferences, reconciliationAmounts, invoiceChecks, invoiceFigures}
-use Rattle.rules.specs.WorkedMonths.{supply, partyOf, readingOf, longReadingOf}
+use Rattle.rules.specs.WorkedMonths.{supply, partyOf, brpPartyOf, readingOf, longReadingOf}
 use Rattle.rules.specs.Words.{figures, ascii}
 
 -- nothing in two hours
@@ -97,6 +97,11 @@ pub record WorkedServices : Type 0 where
   -- unknown kind
   pub body-lengths :
       figures 10 bodyLength ≡ 0 ∷ 9 ∷ 21 ∷ 35 ∷ 9 ∷ 6 ∷ 35 ∷ 4 ∷ 25 ∷ 0 ∷ []
+  -- W5: "12 hexadecimal (body 34: supplier GLN 13, BRP GLN 13, load share 8)"
+  pub body-length-12 : bodyLength brpPartyKind ≡ 34
+  pub bytes-12 :
+      recordBytes (brpPartyOf "0000000000017" "0000000000024" 258)
+      ≡ 18 ∷ (ascii "0000000000017" ++ ascii "0000000000024" ++ (0 ∷ 0 ∷ 0 ∷ 0 ∷ 0 ∷ 0 ∷ 1 ∷ 2 ∷ []))
   -- one record alone: an empty part is 1; 2 before 1; bytes after it are not looked at; 744 and 745, 63 and 64
   pub alone-empty : readAlone [] ≡ refusal fileFault 0
   pub alone-unknown : readAlone (255 ∷ []) ≡ refusal unknownKind 0
@@ -110,6 +115,10 @@ pub record WorkedServices : Type 0 where
   pub alone-long-span : readAlone (recordBytes (longReadingOf 63 0 746 0 0 0)) ≡ refusal spanFault 0
   pub alone-any-weights :
       readAlone (recordBytes (longReadingOf 63 744 745 1000000000 18446744073709551615 256)) ≡ given (longReadingOf 63 744 745 1000000000 18446744073709551615 256)
+  -- W5: a 12 is read with both GLNs; "a bad BRP GLN is 5"; 34 bytes are one too few
+  pub alone-12 : readAlone (recordBytes (brpPartyOf "0000000000017" "0000000000024" 258)) ≡ given (brpPartyOf "0000000000017" "0000000000024" 258)
+  pub alone-12-gln : readAlone (recordBytes (brpPartyOf "0000000000017" "0000000000025" 258)) ≡ refusal glnFault 0
+  pub alone-12-cut : readAlone (take 34 (recordBytes (brpPartyOf "0000000000017" "0000000000024" 258))) ≡ refusal fileFault 0
   -- the writer: 4, 5, 11, 12 and then 16; a longer part keeps what stands behind the record
   pub write-share-before-gln : writeVerdict (partyOf "123" 4000000001) 0 ≡ refused outOfRange 0
   pub write-gln : writeVerdict (partyOf "123" 1) 0 ≡ refused glnFault 0
@@ -127,6 +136,11 @@ pub record WorkedServices : Type 0 where
   pub write-nothing-further-on : written (end 1) (9 ∷ 9 ∷ 9 ∷ 9 ∷ 9 ∷ 8 ∷ 7 ∷ []) ≡ 7 ∷ 0 ∷ 0 ∷ 0 ∷ 1 ∷ 8 ∷ 7 ∷ []
   pub write-any-weights : writeVerdict (longReadingOf 0 0 1 1 18446744073709551615 0) 26 ≡ accepted
   pub write-long-short : writeVerdict (longReadingOf 0 0 1 1 18446744073709551615 0) 25 ≡ refused wrongLength 0
+  -- W5: the writer of a 12: a BRP GLN of twelve digits is 5, after the share's 4 and before 16
+  pub write-12 : writeVerdict (brpPartyOf "0000000000017" "0000000000024" 1) 35 ≡ accepted
+  pub write-12-short : writeVerdict (brpPartyOf "0000000000017" "0000000000024" 1) 34 ≡ refused wrongLength 0
+  pub write-12-gln : writeVerdict (brpPartyOf "0000000000017" "000000000024" 1) 34 ≡ refused glnFault 0
+  pub write-12-share-before-gln : writeVerdict (brpPartyOf "0000000000017" "000000000024" 4000000001) 34 ≡ refused outOfRange 0
   -- the writer on plain numbers: 2 before all; another length; a or b beyond two bytes, and E beyond four, by their own rules; below 0 before any of them; a count beyond four bytes
   pub plain-unknown : plainVerdict 255 [] [] [] 0 ≡ refused unknownKind 0
   pub plain-too-many : plainVerdict endKind (pos 1 ∷ pos 1 ∷ []) [] [] 5 ≡ refused outOfRange 0
@@ -141,6 +155,10 @@ pub record WorkedServices : Type 0 where
   pub plain-weights : plainVerdict longReadingKind (pos 0 ∷ pos 0 ∷ pos 1 ∷ pos 0 ∷ pos 9223372036854775807 ∷ pos 0 ∷ []) [] [] 26 ≡ accepted
   pub plain-weight-above : plainVerdict longReadingKind (pos 0 ∷ pos 0 ∷ pos 1 ∷ pos 0 ∷ pos 0 ∷ pos 18446744073709551616 ∷ []) [] [] 26 ≡ refused outOfRange 0
   pub plain-weight-below : plainVerdict longReadingKind (pos 0 ∷ pos 0 ∷ pos 1 ∷ pos 0 ∷ pos 0 ∷ negsuc 0 ∷ []) [] [] 26 ≡ refused outOfRange 0
+  -- W5: of a 12 the load share is the one number, and its GLNs stand beside it
+  pub plain-12 : plainVerdict brpPartyKind (pos 1 ∷ []) (ascii "0000000000017") (ascii "0000000000024") 35 ≡ accepted
+  pub plain-12-gln : plainVerdict brpPartyKind (pos 1 ∷ []) (ascii "0000000000017") (ascii "000000000024") 35 ≡ refused glnFault 0
+  pub plain-12-too-many : plainVerdict brpPartyKind (pos 1 ∷ pos 1 ∷ []) (ascii "0000000000017") (ascii "0000000000024") 35 ≡ refused outOfRange 0
   -- W3, the planner: 7 Wh from hour 1 of a month of 2 hours, over one of 1 hour, to before hour 2 of one of 3: weights 1, 2 and 1 + 1
   pub plan-lines :
       planned (meter 7 1 2)
