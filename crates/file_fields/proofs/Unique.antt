@@ -10,8 +10,8 @@ use Rattle.record.specs.declared.Record.the-variants.{Reading}
 use Rattle.record.proofs.Unique.{decode-once}
 use Rattle.file_sections.specs.declared.Sections.{Sections}
 use Rattle.file_sections.specs.Walk.{Accepted}
-use Rattle.file_fields.specs.Fields.{FixedIs, RefixedIs, PriceIs, ReadingIs, ShareIs, GlnIs, BrpGlnIs}
-use Rattle.file_fields.proofs.FieldsRead.{fixed-read, refixed-read, price-read, share-read, gln-read, brp-gln-read}
+use Rattle.file_fields.specs.Fields.{FixedIs, RefixedIs, PriceIs, ReadingIs, ShareIs, GlnIs, BrpGlnIs, BrpNumberIs}
+use Rattle.file_fields.proofs.FieldsRead.{fixed-read, refixed-read, price-read, share-read, gln-read, brp-gln-read, brp-number-read}
 use Rattle.rules.specs.Flows as R
 
 flows-once : (f g : CFlows.Flows) → flowsOf f ≡ flowsOf g → f ≡ g
@@ -41,3 +41,6 @@ module _ (file : List ℕ) (s : Sections) (ok : Accepted file s) where
 
   pub brp-gln-unique : (i : ℕ) (x y : List ℕ) → BrpGlnIs file i x → BrpGlnIs file i y → x ≡ y
   brp-gln-unique i x y p q = brp-gln-read file s ok p ∙ sym (brp-gln-read file s ok q)
+
+  pub brp-number-unique : (i x y : ℕ) → BrpNumberIs file i x → BrpNumberIs file i y → x ≡ y
+  brp-number-unique i x y p q = brp-number-read file s ok p ∙ sym (brp-number-read file s ok q)

@@ -10,6 +10,7 @@ use Rattle.record.specs.declared.Flows as CFlows
 use Rattle.record.specs.declared.Reading as CReading
 use Rattle.file_sections.specs.declared.Sections.{Sections}
 use Rattle.file_sections.specs.Walk.{Accepted}
+use Rattle.rules.specs.Brp.{brpOf}
 use Rattle.rules.specs.Month.{flowsAt, partyAt, priceAt, shareOf, monthOf}
 use Rattle.rules.specs.MonthFile.{MonthFile, readMonth}
 use Rattle.rules.specs.Record.{readingKind, longReadingKind, reading, brpGln, kindAt, recordAt}
@@ -66,3 +67,6 @@ pub record GlnIs (file : List ℕ) (i : ℕ) (gln : List ℕ) : Type 0 where
 
 pub record BrpGlnIs (file : List ℕ) (i : ℕ) (gln : List ℕ) : Type 0 where
   pub is : (setting : Setting) (m : MonthFile) → readMonth setting file ≡ given m → gln ≡ brpGln (partyAt m i)
+
+pub record BrpNumberIs (file : List ℕ) (i n : ℕ) : Type 0 where
+  pub is : (setting : Setting) (m : MonthFile) → readMonth setting file ≡ given m → n ≡ brpOf m i

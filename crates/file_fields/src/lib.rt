@@ -3,12 +3,13 @@
 // gave for this file, and a place within them; to refuse by themselves they would have to read the file again. A reading is of one of two lengths, so it is
 // asked for by the byte where it stands; the parties of a file all have the same length, which the sections tell.
 use file_sections::Sections;
+use gln::Gln;
 use record::Flows;
 use record::Reading;
 ghost use mathlib.Core.Path.{_≡_};
 ghost use Prim.Native.Nat.{_+_, _*_, _≤_};
 ghost use lib.ListN.{length, drop};
-ghost use Rattle.file_fields.specs.Fields.{FixedAsked, RefixedAsked, PriceAsked, ReadingAsked, PartyAsked, FixedIs, RefixedIs, PriceIs, ReadingIs, ShareIs, GlnIs, BrpGlnIs};
+ghost use Rattle.file_fields.specs.Fields.{FixedAsked, RefixedAsked, PriceAsked, ReadingAsked, PartyAsked, FixedIs, RefixedIs, PriceIs, ReadingIs, ShareIs, GlnIs, BrpGlnIs, BrpNumberIs};
 
 // The file from the k-th record of a section on, whose records have so many bytes.
 fn from_record<'a>(file: &'a [u8], section: usize, size: usize, k: usize) -> &'a [u8]
@@ -85,4 +86,15 @@ pub fn brp_gln_of<'a>(file: &'a [u8], s: Sections, i: usize) -> &'a [u8]
         return record::brp_gln_in(part);
     }
     record::gln_in(part)
+}
+
+// A party's BRP, by the number that its thirteen digits are.
+pub fn brp_number(file: &[u8], s: Sections, i: usize) -> u64
+    requires { ⌜ PartyAsked (now file) s i ⌝ }
+    ensures { λ n. ⌜ BrpNumberIs (now (file .entry)) i n ⌝ }
+{
+    match gln::check(brp_gln_of(file, s, i)) {
+        Gln::Valid(number) => number,
+        Gln::Invalid => 0,
+    }
 }

@@ -1,6 +1,6 @@
 -- 18 and 13 of one reading of an accepted file, by its weights and two beginnings of the curve: both stand in the lent list, the second is not less, and they
 -- say what the rules say.
-use mathlib.Core.List.{List}
+use mathlib.Core.List.{List, [], _∷_}
 use mathlib.Core.Path.{_≡_, sym, _∙_, ap, subst}
 use Prim.Native.Nat.{ℕ, suc, _+_, _-_, _≤_, _<_}
 use native.Mathlib.Numerals.{add-one}
@@ -17,7 +17,7 @@ use Rattle.record.specs.declared.Reading as CReading
 use Rattle.periodise.specs.declared.Spread.{Spread}
 use Rattle.rules.specs.Month.{monthOf, curve, readingAt, S, wholeOf, readingChecks, readingVerdict}
 use Rattle.rules.specs.MonthFile.{MonthFile, H, P}
-use Rattle.rules.specs.Record.{Reading}
+use Rattle.rules.specs.Record.{Reading, reading}
 use Rattle.rules.specs.Refusals.{Verdict, first}
 use Rattle.rules.specs.Words.{sum}
 use Rattle.rules.proofs.Loops.{figures-length, figures-at}
@@ -25,12 +25,13 @@ use Rattle.rules.proofs.Places.{sizesBefore}
 use Rattle.rules.proofs.Whole.{every-at, ReadingRight}
 
 -- the first reading stands where the readings start, and the number of the next is one more
-pub none-before : (start : ℕ) (readings : List Reading) → start ≡ start + sizesBefore readings 0
-unfolding sizesBefore sum
-none-before start readings = omega arith
+pub none-before : (start : ℕ) (readings : List Reading) → start ≡ start + sizesBefore reading readings 0
+unfolding sizesBefore
+none-before start [] = omega arith
+none-before start (r ∷ readings) = omega arith
 
-pub one-further : (start : ℕ) (readings : List Reading) (j : ℕ) → start + sizesBefore readings (suc j) ≡ start + sizesBefore readings (j + 1)
-one-further start readings j = ap (λ (n : ℕ). start + sizesBefore readings n) (sym (add-one j))
+pub one-further : (start : ℕ) (readings : List Reading) (j : ℕ) → start + sizesBefore reading readings (suc j) ≡ start + sizesBefore reading readings (j + 1)
+one-further start readings j = ap (λ (n : ℕ). start + sizesBefore reading readings n) (sym (add-one j))
 
 -- reading j of an accepted file, read beside the beginnings of the file's curve
 pub record Read (file : List ℕ) (s : Sections) (lent : List ℕ) (j place : ℕ) (x : CReading.Reading) : Type 0 where

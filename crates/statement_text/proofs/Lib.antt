@@ -1,3 +1,2 @@
-pub mod PartyLines
 pub mod Statements
 pub mod Unique

@@ -8,7 +8,8 @@ use Rattle.rules.specs.Refusals as R
 use Rattle.rules.specs.Statement as T
 use Rattle.setting.specs.Asked.{asked}
 use Rattle.setting.specs.declared.Setting.{Setting}
-use Rattle.statement_text.specs.Stating.{verdict, told, Promised}
+use Rattle.statement_text.specs.Stating.{perOf, verdict, told, Promised}
+use Rattle.statement_text.specs.declared.Per.{Per}
 use Rattle.statement_text.specs.declared.Stated.{Stated}
 use Rattle.statement_text.specs.declared.Stated.the-variants.{Lines, Refused}
 use Rattle.text.specs.Text.{atStart}
@@ -23,7 +24,7 @@ told-once (Refused x place) (Refused y other) e =
     let same : x ≡ y = named-once x y same-name in
     cc
 
-pub statement-unique : {setting : Setting} {file old : List ℕ} {r r′ : Stated} {new new′ : List ℕ} → Promised setting file old r new → Promised setting file old r′ new′ → (r ≡ r′) × (new ≡ new′)
-statement-unique {setting} {file} {old} {r} {r′} {new} {new′} p q =
+pub statement-unique : {setting : Setting} {per : Per} {file old : List ℕ} {r r′ : Stated} {new new′ : List ℕ} → Promised setting per file old r new → Promised setting per file old r′ new′ → (r ≡ r′) × (new ≡ new′)
+statement-unique {setting} {per} {file} {old} {r} {r′} {new} {new′} p q =
     let same : r ≡ r′ = told-once r r′ (p .answer ∙ sym (q .answer)) in
-    (same, p .contents ∙ ap (λ (x : Stated). R.afterwards (verdict x) (atStart (T.statement (asked setting) file) old) old) same ∙ sym (q .contents))
+    (same, p .contents ∙ ap (λ (x : Stated). R.afterwards (verdict x) (atStart (T.statementPer (perOf per) (asked setting) file) old) old) same ∙ sym (q .contents))

@@ -12,13 +12,14 @@ use Rattle.month_series.proofs.OneReading.{Read, in-file, ends-stand, e
 use Rattle.rules.specs.Month.{monthOf, readingVerdict}
 use Rattle.rules.specs.Words.{at}
 use Rattle.rules.proofs.Loops.{Looking, look-start, look-pass, look-stop, look-end}
+use Rattle.rules.specs.Record.{reading}
 use Rattle.rules.proofs.Places.{sizesBefore}
 use Rattle.month_series.proofs.judge_readings.Statement.{statement}
 use Rattle.month_series.proofs.judge_readings.Tie as tie
 
 abbrev Inv-loop : tie.InvT-loop
 Inv-loop file beginnings readings place₀ j₀ place j =
-    Looking (readingVerdict (monthOf file)) (length (monthOf file .readings)) j × (place ≡ place₀ + sizesBefore (monthOf file .readings) j)
+    Looking (readingVerdict (monthOf file)) (length (monthOf file .readings)) j × (place ≡ place₀ + sizesBefore reading (monthOf file .readings) j)
 
 abbrev μ-loop : tie.MeasureT-loop
 μ-loop file beginnings readings place₀ j₀ place j = readings - j

@@ -7,6 +7,7 @@ use Rattle.month_window.proofs.Windows.{Counted, counted-start, taken, 
 use Rattle.file_fields.specs.Fields.{ReadingPlaced}
 use Rattle.file_fields.proofs.Readers.{short-file, few-readings, reading-asked, next-place, next-within}
 use Rattle.month_series.proofs.OneReading.{none-before, one-further}
+use Rattle.rules.specs.Record.{reading}
 use Rattle.rules.proofs.Places.{sizesBefore}
 use Rattle.rules.specs.Month.{monthOf}
 use Rattle.month_window.proofs.window.Statement.{statement}
@@ -14,7 +15,7 @@ use Rattle.month_window.proofs.window.Tie as tie
 
 abbrev Inv-loop : tie.InvT-loop
 Inv-loop file curve beginnings start hours out₀ readings place₀ j₀ out place j =
-    Counted (monthOf file) start hours out j × (place ≡ place₀ + sizesBefore (monthOf file .readings) j)
+    Counted (monthOf file) start hours out j × (place ≡ place₀ + sizesBefore reading (monthOf file .readings) j)
 
 abbrev μ-loop : tie.MeasureT-loop
 μ-loop file curve beginnings start hours out₀ readings place₀ j₀ out place j = readings - j
