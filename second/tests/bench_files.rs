@@ -14,6 +14,7 @@ fn size(hours: usize, parties: usize, refixed: bool, readings: Readings, span: u
     Size {
         hours,
         parties,
+        brps: None,
         refixed,
         readings,
         span,
