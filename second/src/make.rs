@@ -579,8 +579,9 @@ fn parties_of_shares(random: &mut Random, shares_kwh: &[u64]) -> Vec<DraftParty>
 /// What BRP GLNs suppliers of these GLNs get, one each.
 type Brps = fn(&mut Random, &[Gln]) -> Vec<Gln>;
 
-/// The ways in which suppliers can be under BRPs.
-const BRPS: [Brps; 4] = [one_for_all, each_its_own, each_another, a_few];
+/// The ways in which suppliers can be under BRPs. The common one stands here several times: only where a BRP has some of the
+/// suppliers, and not all, it shows when their whole øre are made.
+const BRPS: [Brps; 6] = [one_for_all, a_few, each_its_own, a_few, each_another, a_few];
 
 /// Makes all parties 12 records, under BRPs in one of these ways.
 pub fn give_any_brps(random: &mut Random, parties: &mut [DraftParty]) {
