@@ -32,6 +32,8 @@ pub struct Size {
     pub hours: usize,
     /// At least one.
     pub parties: usize,
+    /// The BRPs of the parties, 1 up to the number of parties, in 12 records; None for 02 records.
+    pub brps: Option<usize>,
     pub refixed: bool,
     pub readings: Readings,
     /// The hours of each reading: 1 up to the month's.
@@ -73,10 +75,7 @@ fn month(size: &Size) -> Draft {
             carrier: (size.parties / 2) as u8,
         },
         parties: (0..size.parties)
-            .map(|party| DraftParty {
-                gln: with_check_digit(579_000_000_001 + party as u64),
-                load_share_kwh: random.between(10_000_000, 60_000_000) as u64,
-            })
+            .map(|party| party_of(size, party, random))
             .collect(),
         fixed: series(random),
         refixed: if size.refixed {
@@ -90,6 +89,17 @@ fn month(size: &Size) -> Draft {
     };
     draft.readings = readings(size, &draft, random);
     draft
+}
+
+/// The suppliers are under the BRPs in turn, and the BRPs' GLNs fall, so that putting them in order is all work there is.
+fn party_of(size: &Size, party: usize, random: &mut Random) -> DraftParty {
+    let gln = with_check_digit(579_000_000_001 + party as u64);
+    let load_share_kwh = random.between(10_000_000, 60_000_000) as u64;
+    let supplier = DraftParty::of_02(gln, load_share_kwh);
+    match size.brps {
+        None => supplier,
+        Some(brps) => supplier.under(with_check_digit(579_000_001_000 - (party % brps) as u64)),
+    }
 }
 
 fn readings(size: &Size, draft: &Draft, random: &mut Random) -> Vec<Reading> {

@@ -6,15 +6,16 @@
 //! records of a good draft and tells its aim. Neither is asked what the reader says: the tests compare the two.
 
 use crate::draft::{measured_hour, Draft};
-use crate::gln::with_check_digit;
+use crate::gln::{with_check_digit, Gln};
 use crate::limits::{FILE_BYTES_MAX, STATUS_MISSING, WHOLE_WEIGHT_MAX};
 use crate::make::{
-    add_readings, curve, is_refixed, month, most_residual_wh, own_weight, random_hour,
-    random_weights, Aim, MadeFile,
+    add_readings, curve, give_any_brps, is_refixed, month, most_residual_wh, own_weight,
+    random_hour, random_weights, Aim, MadeFile,
 };
 use crate::random::Random;
 use crate::record::{
-    Heading, HourFlows, Party, Reading, Record, Weights, FIXED_HOUR, READING, REFIXED_HOUR,
+    Heading, HourFlows, Party, Reading, Record, Weights, FIXED_HOUR, PARTY, PARTY_WITH_BRP,
+    READING, REFIXED_HOUR,
 };
 use crate::refusal::{Number, Refusal};
 
@@ -89,6 +90,33 @@ pub const DRAFT_FAULTS: &[(&str, DraftFault)] = &[
         draft.prices[hour].hour = other_hour(random, hour);
         Number::OutOfOrder.at(draft.at_price(hour))
     }),
+    // 3: a mixture of parties
+    ("a 02 among 12 records", |draft, random| {
+        have_brps(draft, random);
+        let party = random.below(draft.parties.len());
+        draft.parties[party].brp_gln = None;
+        Number::OutOfOrder.at(place_of_mixture(draft, party))
+    }),
+    ("a 12 among 02 records", |draft, random| {
+        have_no_brps(draft);
+        let party = random.below(draft.parties.len());
+        draft.parties[party].brp_gln = Some(draft.parties[party].gln);
+        Number::OutOfOrder.at(place_of_mixture(draft, party))
+    }),
+    ("12 records, then 02 records", |draft, random| {
+        have_brps(draft, random);
+        let first_02 = 1 + random.below(draft.parties.len() - 1);
+        for party in &mut draft.parties[first_02..] {
+            party.brp_gln = None;
+        }
+        Number::OutOfOrder.at(draft.at_party(first_02))
+    }),
+    ("02 records, then 12 records", |draft, random| {
+        have_no_brps(draft);
+        let first_12 = 1 + random.below(draft.parties.len() - 1);
+        give_any_brps(random, &mut draft.parties[first_12..]);
+        Number::OutOfOrder.at(draft.at_party(first_12))
+    }),
     // 4: the heading
     ("area 0", |draft, _| {
         draft.heading.area = 0;
@@ -137,6 +165,12 @@ pub const DRAFT_FAULTS: &[(&str, DraftFault)] = &[
     }),
     // 4: party, hours, price, reading
     ("load share", |draft, random| {
+        let party = random.below(draft.parties.len());
+        draft.parties[party].load_share_kwh = outside(random, 4_000_000_001, &[1 << 63, u64::MAX]);
+        Number::OutsideRange.at(draft.at_party(party))
+    }),
+    ("load share of a 12", |draft, random| {
+        have_brps(draft, random);
         let party = random.below(draft.parties.len());
         draft.parties[party].load_share_kwh = outside(random, 4_000_000_001, &[1 << 63, u64::MAX]);
         Number::OutsideRange.at(draft.at_party(party))
@@ -211,26 +245,24 @@ pub const DRAFT_FAULTS: &[(&str, DraftFault)] = &[
     }),
     // 5
     ("GLN with a byte that is no digit", |draft, random| {
-        let (party, position) = (random.below(draft.parties.len()), random.below(13));
-        draft.parties[party].gln[position] = *random.pick(b"/: A\0\xB0\xFF");
-        Number::BadGln.at(draft.at_party(party))
+        gln_fault(draft, random, with_no_digit)
     }),
     (
         "GLN with a byte that is no digit, of a right sum",
-        |draft, random| {
-            // Ten more than the digit's own value changes no weighted sum modulo 10.
-            let (party, position) = (random.below(draft.parties.len()), random.below(13));
-            draft.parties[party].gln[position] =
-                draft.parties[party].gln[position].wrapping_add(10);
-            Number::BadGln.at(draft.at_party(party))
-        },
+        |draft, random| gln_fault(draft, random, with_no_digit_of_right_sum),
     ),
     ("GLN with a wrong check digit", |draft, random| {
-        let party = random.below(draft.parties.len());
-        let check_digit = &mut draft.parties[party].gln[12];
-        *check_digit =
-            b'0' + (check_digit.wrapping_sub(b'0') % 10 + 1 + random.below(9) as u8) % 10;
-        Number::BadGln.at(draft.at_party(party))
+        gln_fault(draft, random, with_wrong_check_digit)
+    }),
+    ("BRP GLN with a byte that is no digit", |draft, random| {
+        brp_gln_fault(draft, random, with_no_digit)
+    }),
+    (
+        "BRP GLN with a byte that is no digit, of a right sum",
+        |draft, random| brp_gln_fault(draft, random, with_no_digit_of_right_sum),
+    ),
+    ("BRP GLN with a wrong check digit", |draft, random| {
+        brp_gln_fault(draft, random, with_wrong_check_digit)
     }),
     ("GLN equal to the one before", |draft, random| {
         let party = 1 + random.below(draft.parties.len() - 1);
@@ -244,6 +276,19 @@ pub const DRAFT_FAULTS: &[(&str, DraftFault)] = &[
         draft.parties[party - 1].gln = gln;
         Number::BadGln.at(draft.at_party(party))
     }),
+    (
+        "supplier GLNs of 12 records that do not rise",
+        |draft, random| {
+            // The BRP GLNs do: they are the suppliers' as these were.
+            let suppliers: Vec<Gln> = draft.parties.iter().map(|party| party.gln).collect();
+            for (party, supplier) in draft.parties.iter_mut().zip(suppliers) {
+                party.brp_gln = Some(supplier);
+            }
+            let party = 1 + random.below(draft.parties.len() - 1);
+            draft.parties[party].gln = draft.parties[random.below(party)].gln;
+            Number::BadGln.at(draft.at_party(party))
+        },
+    ),
     // 6
     ("W 0", |draft, _| {
         set_shares(draft, 0, 0);
@@ -474,6 +519,62 @@ fn have_refixed(draft: &mut Draft) {
     if draft.refixed.is_empty() {
         draft.refixed = draft.fixed.clone();
     }
+}
+
+/// Makes all parties 12 records, if one is a 02.
+fn have_brps(draft: &mut Draft, random: &mut Random) {
+    if draft.parties.iter().any(|party| party.brp_gln.is_none()) {
+        give_any_brps(random, &mut draft.parties);
+    }
+}
+
+/// Makes all parties 02 records.
+fn have_no_brps(draft: &mut Draft) {
+    for party in &mut draft.parties {
+        party.brp_gln = None;
+    }
+}
+
+/// Where it shows that one party is of another kind than all others: there, or at the second if it is the first.
+fn place_of_mixture(draft: &Draft, party: usize) -> usize {
+    draft.at_party(party.max(1))
+}
+
+/// Spoils the GLN of one party, of either kind of record.
+fn gln_fault(draft: &mut Draft, random: &mut Random, spoil: fn(&mut Gln, &mut Random)) -> Refusal {
+    let party = random.below(draft.parties.len());
+    spoil(&mut draft.parties[party].gln, random);
+    Number::BadGln.at(draft.at_party(party))
+}
+
+/// Spoils the BRP GLN of one party, all being 12 records.
+fn brp_gln_fault(
+    draft: &mut Draft,
+    random: &mut Random,
+    spoil: fn(&mut Gln, &mut Random),
+) -> Refusal {
+    have_brps(draft, random);
+    let party = random.below(draft.parties.len());
+    draft.parties[party].brp_gln = draft.parties[party].brp_gln.map(|mut brp_gln| {
+        spoil(&mut brp_gln, random);
+        brp_gln
+    });
+    Number::BadGln.at(draft.at_party(party))
+}
+
+fn with_no_digit(gln: &mut Gln, random: &mut Random) {
+    gln[random.below(13)] = *random.pick(b"/: A\0\xB0\xFF");
+}
+
+/// Ten more than the digit's own value changes no weighted sum modulo 10.
+fn with_no_digit_of_right_sum(gln: &mut Gln, random: &mut Random) {
+    let byte = &mut gln[random.below(13)];
+    *byte = byte.wrapping_add(10);
+}
+
+fn with_wrong_check_digit(gln: &mut Gln, random: &mut Random) {
+    let check_digit = &mut gln[12];
+    *check_digit = b'0' + (check_digit.wrapping_sub(b'0') % 10 + 1 + random.below(9) as u8) % 10;
 }
 
 /// Changes a field of one hour, fixed or refixed, so that it is outside its range.
@@ -721,6 +822,16 @@ pub const BYTES_FAULTS: &[(&str, BytesFault)] = &[
         records[place].truncate(*random.pick(&[10, 18, 25, any]));
         refused(records, Number::BrokenFile, place)
     }),
+    ("12 cut short", |draft, random| {
+        // As long as a 02, after either GLN, or anywhere.
+        have_brps(draft, random);
+        let place = draft.at_party(random.below(draft.parties.len()));
+        let mut records = draft.records();
+        records.truncate(place + 1);
+        let any = 1 + random.below(34);
+        records[place].truncate(*random.pick(&[14, 22, 27, 34, any]));
+        refused(records, Number::BrokenFile, place)
+    }),
     ("cut after a kind", |draft, random| {
         let mut records = draft.records();
         let cut = random.below(records.len());
@@ -772,7 +883,7 @@ pub const BYTES_FAULTS: &[(&str, BytesFault)] = &[
     ("unknown record put in", |draft, random| {
         let mut records = draft.records();
         let place = random.below(records.len());
-        let (kind, length) = *random.pick(&[(0x09, 11), (0x0A, 3), (0x12, 34)]);
+        let (kind, length) = *random.pick(&[(0x09, 11), (0x0A, 3)]);
         let mut unknown = vec![0; 1 + length];
         unknown[0] = kind;
         records.insert(place, unknown);
@@ -799,17 +910,22 @@ pub const BYTES_FAULTS: &[(&str, BytesFault)] = &[
         records.insert(place, records[0].clone());
         refused(records, Number::OutOfOrder, place)
     }),
-    ("a party too few", |draft, random| {
-        let party = random.below(draft.parties.len());
-        draft.parties.remove(party);
-        refused(draft.records(), Number::OutOfOrder, draft.at_fixed(0))
+    ("a party too few", a_party_too_few),
+    ("a 12 too few", |draft, random| {
+        have_brps(draft, random);
+        a_party_too_few(draft, random)
     }),
-    ("a party too many", |draft, _| {
-        let place = draft.at_fixed(0);
-        let mut another = draft.parties[0];
-        another.gln = with_check_digit(999_999_999_999);
-        draft.parties.push(another);
-        refused(draft.records(), Number::OutOfOrder, place)
+    ("a party too many", a_party_too_many),
+    ("a 12 too many", |draft, random| {
+        have_brps(draft, random);
+        a_party_too_many(draft, random)
+    }),
+    ("a 12 after the parties", |draft, random| {
+        have_brps(draft, random);
+        let mut records = draft.records();
+        let place = random.between(draft.at_fixed(0) as i64, draft.at_end() as i64) as usize;
+        records.insert(place, records[draft.at_party(0)].clone());
+        refused(records, Number::OutOfOrder, place)
     }),
     ("a fixed hour too few", |draft, random| {
         let hour = random.below(draft.fixed.len());
@@ -902,6 +1018,19 @@ pub const BYTES_FAULTS: &[(&str, BytesFault)] = &[
         records.insert(place, Record::Reading(early).encode());
         refused(records, Number::OutOfOrder, place)
     }),
+    // 4: a party that is read as of the other kind, its load share from the digits of a GLN.
+    ("the first 12 marked as 02", |draft, random| {
+        have_brps(draft, random);
+        let mut records = draft.records();
+        records[draft.at_party(0)][0] = PARTY;
+        refused(records, Number::OutsideRange, draft.at_party(0))
+    }),
+    ("the first 02 marked as 12", |draft, _| {
+        have_no_brps(draft);
+        let mut records = draft.records();
+        records[draft.at_party(0)][0] = PARTY_WITH_BRP;
+        refused(records, Number::OutsideRange, draft.at_party(0))
+    }),
     // Two faults in one record.
     ("cut and out of order", |draft, random| {
         let mut records = draft.records();
@@ -936,21 +1065,56 @@ pub const BYTES_FAULTS: &[(&str, BytesFault)] = &[
     }),
     (
         "a party too many, out of range, with a bad GLN",
-        |draft, _| {
+        |draft, random| {
             let mut records = draft.records();
-            let another = Party {
-                gln: b"579000000000X",
-                load_share_kwh: u64::MAX,
-            };
+            let another = *random.pick(&[BAD_02, BAD_12]);
             records.insert(draft.at_fixed(0), Record::Party(another).encode());
             refused(records, Number::OutOfOrder, draft.at_fixed(0))
         },
     ),
+    (
+        "a 02 after 12 records, out of range, with a bad GLN",
+        |draft, random| {
+            have_brps(draft, random);
+            a_bad_party_after_the_first(draft, random, BAD_02)
+        },
+    ),
+    (
+        "a 12 after 02 records, out of range, with bad GLNs",
+        |draft, random| {
+            have_no_brps(draft);
+            a_bad_party_after_the_first(draft, random, BAD_12)
+        },
+    ),
+    ("a 12 after 02 records, cut short", |draft, random| {
+        have_no_brps(draft);
+        let mut records = draft.records();
+        let place = draft.at_party(1 + random.below(draft.parties.len() - 1));
+        records.truncate(place);
+        let mut cut = Record::Party(BAD_12).encode();
+        cut.truncate(1 + random.below(34));
+        records.push(cut);
+        refused(records, Number::BrokenFile, place)
+    }),
     ("load share and GLN", |draft, random| {
         let party = random.below(draft.parties.len());
         draft.parties[party].load_share_kwh = 4_000_000_001;
         draft.parties[party].gln[random.below(13)] = b'x';
         refused(draft.records(), Number::OutsideRange, draft.at_party(party))
+    }),
+    ("load share and BRP GLN", |draft, random| {
+        let Refusal { place, .. } = brp_gln_fault(draft, random, with_no_digit);
+        let party = place - draft.at_party(0);
+        draft.parties[party].load_share_kwh = outside(random, 4_000_000_001, &[1 << 63, u64::MAX]);
+        refused(draft.records(), Number::OutsideRange, place)
+    }),
+    ("BRP GLN, and a mixture after it", |draft, random| {
+        have_brps(draft, random);
+        let mixed = 1 + random.below(draft.parties.len() - 1);
+        let bad = random.below(mixed);
+        draft.parties[bad].brp_gln = Some(*b"579000000000X");
+        draft.parties[mixed].brp_gln = None;
+        refused(draft.records(), Number::BadGln, draft.at_party(bad))
     }),
     ("party, span and E", |draft, random| {
         let reading = random.below(draft.readings.len());
@@ -1177,8 +1341,45 @@ pub const BYTES_FAULTS: &[(&str, BytesFault)] = &[
     ),
 ];
 
+fn a_party_too_few(draft: &mut Draft, random: &mut Random) -> (Vec<u8>, Aim) {
+    let party = random.below(draft.parties.len());
+    draft.parties.remove(party);
+    refused(draft.records(), Number::OutOfOrder, draft.at_fixed(0))
+}
+
+fn a_party_too_many(draft: &mut Draft, _: &mut Random) -> (Vec<u8>, Aim) {
+    let place = draft.at_fixed(0);
+    let mut another = draft.parties[0];
+    another.gln = with_check_digit(999_999_999_999);
+    draft.parties.push(another);
+    refused(draft.records(), Number::OutOfOrder, place)
+}
+
+/// Parties whose every field is bad, so that whatever is judged before the fields shows.
+const BAD_02: Party = Party {
+    gln: b"579000000000X",
+    brp_gln: None,
+    load_share_kwh: u64::MAX,
+};
+const BAD_12: Party = Party {
+    brp_gln: Some(b"X790000000009"),
+    ..BAD_02
+};
+
+/// Puts this party, which is of the other kind, in the place of one that is not the first.
+fn a_bad_party_after_the_first(
+    draft: &mut Draft,
+    random: &mut Random,
+    bad: Party,
+) -> (Vec<u8>, Aim) {
+    let mut records = draft.records();
+    let place = draft.at_party(1 + random.below(draft.parties.len() - 1));
+    records[place] = Record::Party(bad).encode();
+    refused(records, Number::OutOfOrder, place)
+}
+
 fn unknown_kind(random: &mut Random) -> u8 {
-    *random.pick(&[0x00, 0x09, 0x0A, 0x0B, 0x12, 0x13, 0x80, 0x81, 0xFF])
+    *random.pick(&[0x00, 0x09, 0x0A, 0x0B, 0x11, 0x13, 0x80, 0x81, 0x92, 0xFF])
 }
 
 // Random damage, and two or three faults at random.
@@ -1238,7 +1439,7 @@ pub const RANDOM_DAMAGES: &[(&str, RandomDamage)] = &[
     ("a kind changed", |draft, random| {
         let mut records = draft.records();
         let place = random.below(records.len());
-        records[place][0] = random.below(9) as u8;
+        records[place][0] = *random.pick(&[0, 1, 2, 3, 4, 5, 6, 7, 8, PARTY_WITH_BRP]);
         records.concat()
     }),
     ("a body of random bytes", |draft, random| {

@@ -6,11 +6,40 @@ use crate::gln::Gln;
 use crate::limits::STATUS_MEASURED;
 use crate::record::{Heading, HourFlows, Party, Price, Reading, Record};
 
-/// A party of a draft, with its own copy of the GLN.
+/// A party of a draft, with its own copy of the GLNs.
 #[derive(Clone, Copy, Debug)]
 pub struct DraftParty {
     pub gln: Gln,
+    /// Of a 12 record; None for a 02.
+    pub brp_gln: Option<Gln>,
     pub load_share_kwh: u64,
+}
+
+impl DraftParty {
+    /// A party that is its own BRP: a 02 record.
+    pub const fn of_02(gln: Gln, load_share_kwh: u64) -> DraftParty {
+        DraftParty {
+            gln,
+            brp_gln: None,
+            load_share_kwh,
+        }
+    }
+
+    /// The same supplier under this BRP: a 12 record.
+    pub const fn under(self, brp_gln: Gln) -> DraftParty {
+        DraftParty {
+            brp_gln: Some(brp_gln),
+            ..self
+        }
+    }
+
+    fn record(&self) -> Record<'_> {
+        Record::Party(Party {
+            gln: &self.gln,
+            brp_gln: self.brp_gln.as_ref().map(|gln| &gln[..]),
+            load_share_kwh: self.load_share_kwh,
+        })
+    }
 }
 
 /// A month file as lists of records in file order.
@@ -31,14 +60,7 @@ impl Draft {
     /// All records of the file as bytes, one by one.
     pub fn records(&self) -> Vec<Vec<u8>> {
         let mut records = vec![Record::Heading(self.heading).encode()];
-        records.extend(self.parties.iter().map(|party| {
-            let (gln, load_share_kwh) = (&party.gln[..], party.load_share_kwh);
-            Record::Party(Party {
-                gln,
-                load_share_kwh,
-            })
-            .encode()
-        }));
+        records.extend(self.parties.iter().map(|party| party.record().encode()));
         records.extend(self.fixed.iter().map(|&hour| Record::Fixed(hour).encode()));
         let refixed = self.refixed.iter();
         records.extend(refixed.map(|&hour| Record::Refixed(hour).encode()));

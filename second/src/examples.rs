@@ -1,6 +1,6 @@
 //! The stored examples: S1 of 01, a full month with realistic figures, a month with a silent hour, the case D3 of 01 as a
-//! month that can be worked out by hand, another such month before and after its refixation, one for the whole øre, and three
-//! that one reading crosses.
+//! month that can be worked out by hand, another such month before and after its refixation, one for the whole øre, three that
+//! one reading crosses, and one of suppliers under balance responsible parties.
 
 use crate::draft::{measured_hour, prices_of, Draft, DraftParty};
 use crate::gln::with_check_digit;
@@ -11,8 +11,8 @@ use crate::random::Random;
 use crate::record::{Heading, HourFlows, Reading};
 
 /// The names of the examples.
-pub const NAMES: [&str; 10] = [
-    "s1", "full", "silent", "d3", "before", "after", "ore", "yearly1", "yearly2", "yearly3",
+pub const NAMES: [&str; 11] = [
+    "s1", "full", "silent", "d3", "before", "after", "ore", "yearly1", "yearly2", "yearly3", "brp",
 ];
 
 /// The month file of an example; None for an unknown name.
@@ -28,6 +28,7 @@ pub fn example(name: &str) -> Option<Vec<u8>> {
         "yearly1" => Some(yearly()[0].bytes()),
         "yearly2" => Some(yearly()[1].bytes()),
         "yearly3" => Some(yearly()[2].bytes()),
+        "brp" => Some(brp().bytes()),
         _ => None,
     }
 }
@@ -200,14 +201,41 @@ fn month_of_wh(month: u8, residuals_wh: [i64; 4]) -> Draft {
     }
 }
 
+/// Three suppliers: the first and the last, who carries the loss, under one BRP, and the second its own, whose GLN is the
+/// lower one. Both a Wh and an øre fall otherwise than they would among the two BRPs. Refixation changed nothing.
+pub fn brp() -> Draft {
+    let series: Vec<HourFlows> = vec![measured_hour(0, 9), measured_hour(1, 6)];
+    let suppliers = numbered_parties([2, 3, 2]);
+    let brps = [4, 2, 4].map(with_check_digit);
+    let one_hour_reading = |(party, hour, e_wh)| Reading::of_month(party, hour, hour + 1, e_wh);
+    let readings = [(0, 0, 3), (0, 1, 2), (1, 0, 5), (1, 1, 3), (2, 1, 1)];
+    Draft {
+        heading: Heading {
+            area: 8,
+            year: 2017,
+            month: 1,
+            hours: 2,
+            parties: 3,
+            carrier: 2,
+        },
+        parties: suppliers
+            .into_iter()
+            .zip(brps)
+            .map(|(supplier, brp)| supplier.under(brp))
+            .collect(),
+        fixed: series.clone(),
+        refixed: series,
+        prices: prices_of([400_000, 1_300_000]),
+        readings: readings.map(one_hour_reading).to_vec(),
+        end_count: None,
+    }
+}
+
 /// Parties of these load shares. The first twelve digits of their GLNs are 1, 2, 3 and so on.
 fn numbered_parties<const PARTIES: usize>(shares_kwh: [u64; PARTIES]) -> Vec<DraftParty> {
     let parties = shares_kwh.into_iter().zip(1..);
     parties
-        .map(|(load_share_kwh, number)| DraftParty {
-            gln: with_check_digit(number),
-            load_share_kwh,
-        })
+        .map(|(load_share_kwh, number)| DraftParty::of_02(with_check_digit(number), load_share_kwh))
         .collect()
 }
 
@@ -304,9 +332,9 @@ fn realistic_parties(random: &mut Random, parties: usize) -> Vec<DraftParty> {
         .collect();
     let all_weights: i64 = weights.iter().sum();
     let mut drafted: Vec<DraftParty> = (0..parties)
-        .map(|party| DraftParty {
-            gln: with_check_digit(579_000_000_001 + party as u64),
-            load_share_kwh: (AREA_KWH / all_weights * weights[party]) as u64,
+        .map(|party| {
+            let gln = with_check_digit(579_000_000_001 + party as u64);
+            DraftParty::of_02(gln, (AREA_KWH / all_weights * weights[party]) as u64)
         })
         .collect();
     drafted[7].load_share_kwh = drafted[6].load_share_kwh;

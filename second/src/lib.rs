@@ -23,6 +23,7 @@
 //! | `statement` | "The statement program" |
 //! | `hours` | what the reviewer of 00 asks about a month; its layout stands at its head |
 //! | `preview` | W1: the statement of a month that may be provisional |
+//! | `brp` | W5: one line per balance responsible party |
 //! | `report` | a program's output: its text, or the refusal line |
 //!
 //! The rest makes files to judge by: `random` (seeded numbers), `draft` (a month that can be edited), `make` and
@@ -36,6 +37,7 @@
 //! its length and hands back the figures, so that refused calls have nothing to write into.
 
 pub mod bench;
+pub mod brp;
 pub mod check;
 pub mod damage;
 pub mod distribution;

@@ -3,12 +3,13 @@
 //! - `second statement < FILE` prints what the statement program prints.
 //! - `second hours < FILE` prints what the hours program prints.
 //! - `second preview < FILE` prints what the preview program prints.
+//! - `second brp < FILE` prints what the BRP program prints.
 //! - `second make --seed S --count N --out DIR` writes month files and what each program must print for them.
 //! - `second check --program PATH --seed S --count N` compares another statement program with this one, or with `--report
-//!   hours` or `--report preview` another of those; a long campaign is run with `--threads T`, and with `--feed whole` (or
-//!   `pieces`) instead of both.
+//!   hours`, `--report preview` or `--report brp` another of those; a long campaign is run with `--threads T`, and with
+//!   `--feed whole` (or `pieces`) instead of both.
 //! - `second example NAME` writes the month file of an example (s1, full, silent, d3, before, after, ore,
-//!   yearly1, yearly2, yearly3).
+//!   yearly1, yearly2, yearly3, brp).
 //! - `second bench-file ..` writes a month file of a chosen size (bench/README.md).
 
 use std::io::{self, Read, Write};
@@ -23,12 +24,13 @@ use second::make::Tally;
 use second::report::Report;
 use second::{examples, make};
 
-const USAGE: &str = "usage: second statement|hours|preview < FILE
+const USAGE: &str = "usage: second statement|hours|preview|brp < FILE
        second make --seed S --count N --out DIR
-       second check --program PATH --seed S --count N [--report statement|hours|preview]
+       second check --program PATH --seed S --count N [--report statement|hours|preview|brp]
            [--feed whole|pieces|both] [--threads T]
-       second example s1|full|silent|d3|before|after|ore|yearly1|yearly2|yearly3
-       second bench-file --hours H --parties P --series fixed|refixed --readings N|most --span HOURS [--fault byte|count]";
+       second example s1|full|silent|d3|before|after|ore|yearly1|yearly2|yearly3|brp
+       second bench-file --hours H --parties P --series fixed|refixed --readings N|most --span HOURS
+           [--brps N] [--fault byte|count]";
 
 fn main() -> ExitCode {
     let arguments: Vec<String> = std::env::args().skip(1).collect();
@@ -37,6 +39,7 @@ fn main() -> ExitCode {
         ["statement"] => print_report(Report::Statement),
         ["hours"] => print_report(Report::Hours),
         ["preview"] => print_report(Report::Preview),
+        ["brp"] => print_report(Report::Brp),
         ["make", ref options @ ..] => make_files(options),
         ["check", ref options @ ..] => check_program(options),
         ["example", name] => print_example(name),
@@ -118,9 +121,14 @@ fn print_bench_file(options: &[&str]) -> Result<(), String> {
         value => Err(format!("{name} {value} is not from 1 to {most}")),
     };
     let hours = within("--hours", *HOURS.end())?;
+    let parties = within("--parties", *PARTIES.end())?;
     let size = Size {
         hours,
-        parties: within("--parties", *PARTIES.end())?,
+        parties,
+        brps: match option(options, "--brps") {
+            Ok(_) => Some(within("--brps", parties as i128)?),
+            Err(_) => None,
+        },
         refixed: match option(options, "--series")? {
             "fixed" => false,
             "refixed" => true,

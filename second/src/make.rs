@@ -2,7 +2,8 @@
 //!
 //! Seed and file number alone decide a file. Every third file is valid; the shapes and the damages are gone through in
 //! turn, their details are random. Most months are refixed, so that a final run gets past its 17 and to what comes after;
-//! about a fifth are not. "Valid" is said of a provisional run: a final one refuses a valid month that is not refixed.
+//! about a fifth are not. "Valid" is said of a provisional run: a final one refuses a valid month that is not refixed. A third
+//! of the months, valid or to be damaged, has its parties as 12 records, under BRPs of every kind.
 
 use std::collections::BTreeSet;
 use std::fmt;
@@ -15,7 +16,7 @@ use crate::damage;
 use crate::draft::{measured_hour, prices_of, Draft, DraftParty};
 use crate::gln::{with_check_digit, Gln};
 use crate::limits::{
-    CURVE_FACTOR, CURVE_NUMBER_MAX, FILE_BYTES_MAX, HOURS, PARTIES, READING_WH_MAX,
+    CURVE_FACTOR, CURVE_NUMBER_MAX, FILE_BYTES_MAX, GLN_DIGITS, HOURS, PARTIES, READING_WH_MAX,
     RESIDUAL_WH_MAX, SHARE_SUM_KWH, STATUS_ESTIMATED, STATUS_MEASURED, WHOLE_WEIGHT_MAX,
 };
 use crate::month::{settle, Month};
@@ -106,8 +107,8 @@ pub fn files(seed: u64, count: u64) -> impl Iterator<Item = MadeFile> {
     (0..count).map(move |number| file(seed, number))
 }
 
-/// Writes the files of a seed as NNNNNNN.month and what each program must print as NNNNNNN.statement, .hours and .preview.
-/// Tells the tally of each setting.
+/// Writes the files of a seed as NNNNNNN.month and what each program must print as NNNNNNN.statement, .hours, .preview
+/// and .brp. Tells the tally of each setting.
 pub fn write_files(seed: u64, count: u64, directory: &Path) -> io::Result<[Tally; 2]> {
     fs::create_dir_all(directory)?;
     let mut tallies = Setting::ALL.map(Tally::new);
@@ -132,6 +133,8 @@ pub struct Tally {
     pub of_full_size: u64,
     /// Of the accepted ones, those that are not refixed.
     pub not_refixed: u64,
+    /// Of the accepted ones, those whose parties are 12 records.
+    pub of_12_records: u64,
     /// By refusal number.
     pub refused: [u64; 19],
 }
@@ -143,6 +146,7 @@ impl Tally {
             accepted: 0,
             of_full_size: 0,
             not_refixed: 0,
+            of_12_records: 0,
             refused: [0; 19],
         }
     }
@@ -166,6 +170,7 @@ impl Tally {
                         && i128::from(heading.parties) == *PARTIES.end(),
                 );
                 self.not_refixed += u64::from(month.refixed_wh.is_empty());
+                self.of_12_records += u64::from(month.file.parties[0].brp_gln.is_some());
             }
             Err(refusal) => self.refused[refusal.number as usize] += 1,
         }
@@ -176,13 +181,15 @@ impl Tally {
         self.accepted += other.accepted;
         self.of_full_size += other.of_full_size;
         self.not_refixed += other.not_refixed;
+        self.of_12_records += other.of_12_records;
         for (count, more) in self.refused.iter_mut().zip(other.refused) {
             *count += more;
         }
     }
 
     /// Fails, naming them, if some of the refusals of the setting did not occur, or no accepted month of full size or none
-    /// of less, or in provisional runs no accepted month that is refixed or none that is not.
+    /// of less, or none of 02 records or none of 12, or in provisional runs no accepted month that is refixed or none that is
+    /// not.
     pub fn complete(&self) -> Result<(), String> {
         let mut missing: Vec<String> = self
             .numbers()
@@ -194,6 +201,12 @@ impl Tally {
         }
         if self.of_full_size == 0 {
             missing.push("accepted, of full size".to_string());
+        }
+        if self.accepted == self.of_12_records {
+            missing.push("accepted, of 02 records".to_string());
+        }
+        if self.of_12_records == 0 {
+            missing.push("accepted, of 12 records".to_string());
         }
         if self.accepted == self.not_refixed {
             missing.push("accepted, refixed".to_string());
@@ -217,8 +230,8 @@ impl fmt::Display for Tally {
         }
         writeln!(
             out,
-            "accepted: {}, of which of full size: {}, not refixed: {}",
-            self.accepted, self.of_full_size, self.not_refixed
+            "accepted: {}, of which of full size: {}, of 12 records: {}, not refixed: {}",
+            self.accepted, self.of_full_size, self.of_12_records, self.not_refixed
         )
     }
 }
@@ -234,7 +247,8 @@ pub const SHAPES: &[(&str, Shape)] = &[
         month(random, 1, 1, refixed, 2)
     }),
     ("745 hours, 64 parties", |random| {
-        let readings = random.below(500);
+        // 64 parties of 12 records leave room for so many.
+        let readings = random.below(440);
         month(random, 745, 64, true, readings)
     }),
     ("745 hours, 64 parties, not refixed", |random| {
@@ -411,6 +425,28 @@ pub const SHAPES: &[(&str, Shape)] = &[
         draft
     }),
     ("largest amounts", largest_amounts),
+    ("one BRP for all", |random| {
+        let (parties, refixed) = (2 + random.below(9), is_refixed(random));
+        let mut draft = month(random, 3, parties, refixed, 8);
+        give_brps(random, &mut draft.parties, one_for_all);
+        draft
+    }),
+    ("each its own BRP, in 12 records", |random| {
+        let (parties, refixed) = (1 + random.below(9), is_refixed(random));
+        let mut draft = month(random, 3, parties, refixed, 8);
+        give_brps(random, &mut draft.parties, each_its_own);
+        draft
+    }),
+    ("parts of an øre, of suppliers of a few BRPs", |random| {
+        let (parties, refixed) = (4 + random.below(12), is_refixed(random));
+        let shares = shares_of_sum(random, parties, 97);
+        let mut draft = month_of_shares(random, 4, shares, refixed);
+        set_residuals(random, &mut draft.fixed, 1_000..=2_000);
+        add_readings(random, &mut draft, parties);
+        set_prices(random, &mut draft, &[300_000, -450_000, 250_000, 730_001]);
+        give_brps(random, &mut draft.parties, a_few);
+        draft
+    }),
     ("745 hours, one party", |random| {
         let refixed = is_refixed(random);
         month(random, 745, 1, refixed, 30)
@@ -456,7 +492,7 @@ fn month_of_shares(
     refixed: bool,
 ) -> Draft {
     let share_sum: u64 = shares_kwh.iter().sum();
-    let glns = rising_glns(random, shares_kwh.len());
+    let parties = parties_of_shares(random, &shares_kwh);
     let most_fixed = most_residual_wh(share_sum);
     // Once in a while the residuals are all small, so that remainders decide.
     let scale = random.any_size(most_fixed as u64) as i64;
@@ -479,14 +515,7 @@ fn month_of_shares(
             parties: shares_kwh.len() as u8,
             carrier: random.below(shares_kwh.len()) as u8,
         },
-        parties: glns
-            .into_iter()
-            .zip(shares_kwh)
-            .map(|(gln, load_share_kwh)| DraftParty {
-                gln,
-                load_share_kwh,
-            })
-            .collect(),
+        parties,
         fixed: series(random, highest),
         refixed: if refixed {
             // The curve does not bound the refixed series.
@@ -531,6 +560,73 @@ fn set_residuals(random: &mut Random, series: &mut [HourFlows], range_wh: RangeI
 fn set_prices(random: &mut Random, draft: &mut Draft, prices_ore: &[i32]) {
     for price in &mut draft.prices {
         price.price_ore = *random.pick(prices_ore);
+    }
+}
+
+/// Parties of these load shares, in two times of three as 02 records, else as 12.
+fn parties_of_shares(random: &mut Random, shares_kwh: &[u64]) -> Vec<DraftParty> {
+    let glns = rising_glns(random, shares_kwh.len()).into_iter();
+    let parties = glns.zip(shares_kwh);
+    let mut parties: Vec<DraftParty> = parties
+        .map(|(gln, &load_share_kwh)| DraftParty::of_02(gln, load_share_kwh))
+        .collect();
+    if random.once_in(3) {
+        give_any_brps(random, &mut parties);
+    }
+    parties
+}
+
+/// What BRP GLNs suppliers of these GLNs get, one each.
+type Brps = fn(&mut Random, &[Gln]) -> Vec<Gln>;
+
+/// The ways in which suppliers can be under BRPs. The common one stands here several times: only where a BRP has some of the
+/// suppliers, and not all, it shows when their whole øre are made.
+const BRPS: [Brps; 6] = [one_for_all, a_few, each_its_own, a_few, each_another, a_few];
+
+/// Makes all parties 12 records, under BRPs in one of these ways.
+pub fn give_any_brps(random: &mut Random, parties: &mut [DraftParty]) {
+    let brps = *random.pick(&BRPS);
+    give_brps(random, parties, brps);
+}
+
+fn give_brps(random: &mut Random, parties: &mut [DraftParty], brps: Brps) {
+    let suppliers: Vec<Gln> = parties.iter().map(|party| party.gln).collect();
+    for (party, brp) in parties.iter_mut().zip(brps(random, &suppliers)) {
+        *party = party.under(brp);
+    }
+}
+
+/// One BRP of all suppliers, one of them or another party.
+fn one_for_all(random: &mut Random, suppliers: &[Gln]) -> Vec<Gln> {
+    vec![any_brp(random, suppliers); suppliers.len()]
+}
+
+/// Every supplier its own BRP, as in a file of 02 records.
+fn each_its_own(_: &mut Random, suppliers: &[Gln]) -> Vec<Gln> {
+    suppliers.to_vec()
+}
+
+/// A BRP for every supplier, hardly ever in rising order; now and then some other supplier.
+fn each_another(random: &mut Random, suppliers: &[Gln]) -> Vec<Gln> {
+    let others = suppliers.iter();
+    others.map(|_| any_brp(random, suppliers)).collect()
+}
+
+/// Suppliers of a few BRPs, in any order.
+fn a_few(random: &mut Random, suppliers: &[Gln]) -> Vec<Gln> {
+    let brps: Vec<Gln> = (0..2 + random.below(4))
+        .map(|_| any_brp(random, suppliers))
+        .collect();
+    let suppliers = suppliers.iter();
+    suppliers.map(|_| *random.pick(&brps)).collect()
+}
+
+/// The GLN of a supplier, the lowest and the highest there is, or any other.
+fn any_brp(random: &mut Random, suppliers: &[Gln]) -> Gln {
+    match random.below(8) {
+        0 | 1 => *random.pick(suppliers),
+        2 => with_check_digit(*random.pick(&[0, 999_999_999_999])),
+        _ => with_check_digit(random.below(1_000_000_000_000) as u64),
     }
 }
 
@@ -612,15 +708,17 @@ pub fn add_readings(random: &mut Random, draft: &mut Draft, count: usize) {
     add_readings_of_kinds(random, draft, count - over_months, over_months);
 }
 
-/// What a file of this draft may still grow by, if a damage is to add a refixed series and a few records and it is still
-/// to be no longer than a file may be.
+/// What a file of this draft may still grow by, if a damage is to add a refixed series, BRPs and a few records and it is
+/// still to be no longer than a file may be.
 fn spare_bytes(draft: &Draft) -> usize {
     let refixed = if draft.refixed.is_empty() {
         36 * draft.fixed.len()
     } else {
         0
     };
-    FILE_BYTES_MAX.saturating_sub(draft.bytes().len() + refixed + 1_000)
+    let of_02 = draft.parties.iter().filter(|p| p.brp_gln.is_none());
+    let brps = GLN_DIGITS * of_02.count();
+    FILE_BYTES_MAX.saturating_sub(draft.bytes().len() + refixed + brps + 1_000)
 }
 
 /// Adds random readings of this month and over several, so many of each, in any order and overlapping as they fall, each
@@ -859,7 +957,7 @@ fn curve_number_at_limit(random: &mut Random) -> Draft {
 fn longest_file(random: &mut Random) -> Draft {
     loop {
         let few_hours = 1 + random.below(9);
-        // With an even number of hours no number of readings comes to it.
+        // With 02 records and an even number of hours no number of readings comes to it.
         let hours = *random.pick(&[few_hours, 301, 511, 739, 745]);
         let (parties, refixed) = (1 + random.below(64), is_refixed(random));
         let mut draft = month(random, hours, parties, refixed, 0);

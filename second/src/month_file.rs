@@ -1,4 +1,4 @@
-//! The walk through a whole month file, record by record. (01, "The month file" and "Refusal numbers"; 02, W3)
+//! The walk through a whole month file, record by record. (01, "The month file" and "Refusal numbers"; 02, W3, W5)
 //!
 //! "The file is read first, record by record: 2, then 1, 3, 4, 5, 11, 12, 15." One pass over the records, and for each
 //! record all tests in that order before the next record is looked at.
@@ -13,6 +13,7 @@ use crate::refusal::{Number, Refusal};
 #[derive(Clone, Debug)]
 pub struct MonthFile<'a> {
     pub heading: Heading,
+    /// All 02 or all 12 (02, W5), in file order.
     pub parties: Vec<Party<'a>>,
     pub fixed: Vec<HourFlows>,
     /// Empty if the file has no refixed series.
@@ -67,7 +68,8 @@ struct SoFar<'a> {
 
 impl<'a> SoFar<'a> {
     /// "Order: one 01; P times 02; H times 03; none or H times 06; H times 05; any number of 04; one 07. Hour fields
-    /// run 0, 1, 2 and so on". An 08 "stands among the 04 records" (02, W3).
+    /// run 0, 1, 2 and so on". An 08 "stands among the 04 records" (02, W3). A 12 "may stand in place of 02 for all
+    /// parties of a file", and "a mixture of 02 and 12 is 3" (02, W5).
     fn expects(&self, record: &Record) -> bool {
         let Some(heading) = self.heading else {
             return matches!(record, Record::Heading(_));
@@ -78,7 +80,7 @@ impl<'a> SoFar<'a> {
         let due = |length: usize, hour: u16| !complete(length) && usize::from(hour) == length;
         match record {
             Record::Heading(_) => false,
-            Record::Party(_) => !parties_complete,
+            Record::Party(party) => !parties_complete && self.is_as_before(party),
             Record::Fixed(flows) => parties_complete && due(self.fixed.len(), flows.hour),
             Record::Refixed(flows) => {
                 complete(self.fixed.len())
@@ -92,6 +94,12 @@ impl<'a> SoFar<'a> {
             }
             Record::Reading(_) | Record::End(_) => complete(self.prices.len()),
         }
+    }
+
+    /// Whether a party is of the kind, 02 or 12, of the party before; the first may be of either.
+    fn is_as_before(&self, party: &Party) -> bool {
+        let before = self.parties.last();
+        before.is_none_or(|before| before.brp_gln.is_some() == party.brp_gln.is_some())
     }
 
     /// The file's own H and P once the heading is read, and the GLN of the party before.

@@ -1,5 +1,5 @@
 //! One record of the month file: its kinds and body lengths, its fields as big-endian bytes, the judgement of its
-//! fields, and reading and writing one record alone. (01, "The month file"; 02, W3)
+//! fields, and reading and writing one record alone. (01, "The month file"; 02, W3, W5)
 //!
 //! A new kind is a line in `body_length`, a variant of `Record`, and its arm in each `match` below.
 
@@ -15,6 +15,7 @@ pub const PRICE: u8 = 0x05;
 pub const REFIXED_HOUR: u8 = 0x06;
 pub const END: u8 = 0x07;
 pub const YEARLY_READING: u8 = 0x08;
+pub const PARTY_WITH_BRP: u8 = 0x12;
 
 /// "The body lengths, by kind, are these". None for an unknown kind.
 pub fn body_length(kind: u8) -> Option<usize> {
@@ -28,6 +29,8 @@ pub fn body_length(kind: u8) -> Option<usize> {
         END => Some(4),
         // "A new record 08 (body 25: ..)" (02, W3)
         YEARLY_READING => Some(25),
+        // "A new party record 12 hexadecimal (body 34: ..)" (02, W5)
+        PARTY_WITH_BRP => Some(34),
         _ => None,
     }
 }
@@ -43,11 +46,22 @@ pub struct Heading {
     pub carrier: u8,
 }
 
-/// "GLN 13 ASCII digits, load share 8". The digits are a part of the file; for the writer they may be any bytes.
+/// "GLN 13 ASCII digits, load share 8": a balance supplier. The digits are a part of the file; for the writer they may be
+/// any bytes.
 #[derive(Clone, Copy, Debug, PartialEq, Eq)]
 pub struct Party<'a> {
     pub gln: &'a [u8],
+    /// Of a 12 record. A 02 has none.
+    pub brp_gln: Option<&'a [u8]>,
     pub load_share_kwh: u64,
+}
+
+impl<'a> Party<'a> {
+    /// The GLN of the balance responsible party. "A file with 02 records is still read, each party being its own BRP."
+    /// (02, W5)
+    pub fn brp(&self) -> &'a [u8] {
+        self.brp_gln.unwrap_or(self.gln)
+    }
 }
 
 /// "hour 2, status 1, net supply 8, production 8, hourly 8, flex 8", fixed or refixed.
@@ -112,6 +126,7 @@ impl Reading {
 #[derive(Clone, Copy, Debug, PartialEq, Eq)]
 pub enum Record<'a> {
     Heading(Heading),
+    /// 02, or 12 if it has a BRP GLN.
     Party(Party<'a>),
     Fixed(HourFlows),
     Refixed(HourFlows),
@@ -126,7 +141,10 @@ impl<'a> Record<'a> {
     pub fn kind(&self) -> u8 {
         match self {
             Record::Heading(_) => HEADING,
-            Record::Party(_) => PARTY,
+            Record::Party(party) => match party.brp_gln {
+                None => PARTY,
+                Some(_) => PARTY_WITH_BRP,
+            },
             Record::Fixed(_) => FIXED_HOUR,
             Record::Refixed(_) => REFIXED_HOUR,
             Record::Price(_) => PRICE,
@@ -152,6 +170,13 @@ impl<'a> Record<'a> {
             }),
             PARTY => Record::Party(Party {
                 gln: fields.bytes(limits::GLN_DIGITS),
+                brp_gln: None,
+                load_share_kwh: fields.number(8),
+            }),
+            // "supplier GLN 13, BRP GLN 13, load share 8" (02, W5)
+            PARTY_WITH_BRP => Record::Party(Party {
+                gln: fields.bytes(limits::GLN_DIGITS),
+                brp_gln: Some(fields.bytes(limits::GLN_DIGITS)),
                 load_share_kwh: fields.number(8),
             }),
             FIXED_HOUR => Record::Fixed(fields.hour_flows()),
@@ -185,6 +210,7 @@ impl<'a> Record<'a> {
             }
             Record::Party(party) => {
                 bytes.extend(party.gln);
+                bytes.extend(party.brp_gln.unwrap_or_default());
                 bytes.extend(party.load_share_kwh.to_be_bytes());
             }
             Record::Fixed(hour) | Record::Refixed(hour) => {
@@ -214,7 +240,7 @@ impl<'a> Record<'a> {
         bytes
     }
 
-    /// The fields as plain numbers in the order of the table; a party's GLN is not among them.
+    /// The fields as plain numbers in the order of the table; a party's GLN or GLNs are not among them.
     pub fn fields(&self) -> Vec<i128> {
         match *self {
             Record::Heading(heading) => vec![
@@ -314,8 +340,9 @@ pub fn judge_fields(record: &Record, around: &Surroundings) -> Result<(), Number
     }
     match record {
         Record::Party(party) => {
+            // "BRP GLNs need not rise and may repeat." (02, W5)
             let rising = around.gln_before.is_none_or(|before| before < party.gln);
-            if !gln::is_gln(party.gln) || !rising {
+            if !gln::is_gln(party.gln) || !gln::is_gln(party.brp()) || !rising {
                 return Err(Number::BadGln);
             }
         }
@@ -407,7 +434,8 @@ pub fn write(record: &Record, lent: &mut [u8]) -> Result<usize, Refusal> {
 }
 
 /// The writer with the kind as a number and the fields as a list of numbers (READINGS A43): 2 first; a list of another
-/// length than the kind has is 4. The GLN is looked at for a party only.
+/// length than the kind has is 4. The GLNs stand beside the list: `gln` is looked at for a party only, `brp_gln` for one of
+/// kind 12 only.
 ///
 /// A number that its field could not hold is outside its range. It is 4 where it is negative, an end count or a weight; a
 /// too large a or b stays 11 and a too large E 12, as 01 says of them.
@@ -415,20 +443,26 @@ pub fn write_plain(
     kind: u64,
     fields: &[i128],
     gln: &[u8],
+    brp_gln: &[u8],
     lent: &mut [u8],
 ) -> Result<usize, Refusal> {
     let known = u8::try_from(kind)
         .ok()
         .filter(|&kind| body_length(kind).is_some());
     let kind = known.ok_or(Number::UnknownKind.at(0))?;
-    let record = record_of_numbers(kind, fields, gln).ok_or(Number::OutsideRange.at(0))?;
+    let record = record_of_numbers(kind, fields, gln, brp_gln).ok_or(Number::OutsideRange.at(0))?;
     write(&record, lent)
 }
 
 /// The record of these numbers, each brought to the nearest one that its field can hold: so a number outside its range
 /// stays outside. None where that does not help: a wrong number of fields, a negative number in an unsigned field (it
 /// would become a good 0), an end count or a weight beyond its bytes (any bytes of theirs are good).
-fn record_of_numbers<'a>(kind: u8, fields: &[i128], gln: &'a [u8]) -> Option<Record<'a>> {
+fn record_of_numbers<'a>(
+    kind: u8,
+    fields: &[i128],
+    gln: &'a [u8],
+    brp_gln: &'a [u8],
+) -> Option<Record<'a>> {
     if fields
         .iter()
         .zip(0..)
@@ -447,6 +481,12 @@ fn record_of_numbers<'a>(kind: u8, fields: &[i128], gln: &'a [u8]) -> Option<Rec
         }),
         (PARTY, &[share]) => Record::Party(Party {
             gln,
+            brp_gln: None,
+            load_share_kwh: held_u64(share),
+        }),
+        (PARTY_WITH_BRP, &[share]) => Record::Party(Party {
+            gln,
+            brp_gln: Some(brp_gln),
             load_share_kwh: held_u64(share),
         }),
         (FIXED_HOUR, fields) => Record::Fixed(hour_flows_of_numbers(fields)?),

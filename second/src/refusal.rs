@@ -10,11 +10,11 @@ pub enum Number {
     BrokenFile = 1,
     /// "unknown kind"
     UnknownKind = 2,
-    /// "kind or hour field out of order"
+    /// "kind or hour field out of order"; W5: "a mixture of 02 and 12"
     OutOfOrder = 3,
     /// "another field outside its range"
     OutsideRange = 4,
-    /// "GLN not digits, wrong check digit, not rising"
+    /// "GLN not digits, wrong check digit, not rising"; W5: "a bad BRP GLN"
     BadGln = 5,
     /// "W is 0 or too large"
     BadShareSum = 6,

@@ -1,5 +1,6 @@
 //! The programs that print a report of one month file: which there are, the setting of each, and what it prints.
 
+use crate::brp;
 use crate::hours;
 use crate::month::{settle, Month};
 use crate::preview;
@@ -13,10 +14,16 @@ pub enum Report {
     Statement,
     Hours,
     Preview,
+    Brp,
 }
 
 impl Report {
-    pub const ALL: [Report; 3] = [Report::Statement, Report::Hours, Report::Preview];
+    pub const ALL: [Report; 4] = [
+        Report::Statement,
+        Report::Hours,
+        Report::Preview,
+        Report::Brp,
+    ];
 
     /// The program's name: the word of the command, and the ending of a file that stores its output.
     pub fn word(self) -> &'static str {
@@ -24,6 +31,7 @@ impl Report {
             Report::Statement => "statement",
             Report::Hours => "hours",
             Report::Preview => "preview",
+            Report::Brp => "brp",
         }
     }
 
@@ -32,11 +40,11 @@ impl Report {
         Report::ALL.into_iter().find(|report| report.word() == word)
     }
 
-    /// "The statement program keeps final as its setting; a preview program asks for provisional" (02, W1). The hours
-    /// program is final too.
+    /// "The statement program keeps final as its setting; a preview program asks for provisional" (02, W1). All
+    /// others are final too.
     pub fn setting(self) -> Setting {
         match self {
-            Report::Statement | Report::Hours => Setting::Final,
+            Report::Statement | Report::Hours | Report::Brp => Setting::Final,
             Report::Preview => Setting::Provisional,
         }
     }
@@ -60,6 +68,7 @@ impl Report {
             Report::Statement => statement::text(month),
             Report::Hours => hours::text(month),
             Report::Preview => preview::text(month),
+            Report::Brp => brp::text(month),
         }
     }
 }

@@ -6,14 +6,17 @@ use std::process::{Command, Output};
 
 use common::{assert_accepted, assert_accepted_as_provisional, assert_refused};
 use second::bench::{bench_file, Fault, Readings, Size};
+use second::brp::brp;
 use second::limits::FILE_BYTES_MAX;
 use second::month::settle;
 use second::setting::Setting;
+use second::statement::statement;
 
 fn size(hours: usize, parties: usize, refixed: bool, readings: Readings, span: usize) -> Size {
     Size {
         hours,
         parties,
+        brps: None,
         refixed,
         readings,
         span,
@@ -98,6 +101,28 @@ fn a_fault_shows_at_the_last_byte_only() {
     assert_refused(&counted, 15, end);
 }
 
+/// 64 suppliers of 12 records under so many BRPs, in turn, whose GLNs fall.
+#[test]
+fn the_parties_of_a_file_are_under_so_many_brps() {
+    for brps in [1, 2, 16, 64] {
+        let size = Size {
+            brps: Some(brps),
+            ..size(744, 64, true, Readings::Count(400), 24)
+        };
+        let file = bench_file(&size, None);
+        assert_accepted(&file);
+        assert_eq!(brp(&file).lines().count(), brps + 2);
+        let month = settle(&file, Setting::Final).unwrap();
+        let glns: Vec<_> = month.file.parties.iter().map(|p| p.brp_gln).collect();
+        assert!(glns.iter().all(Option::is_some));
+        assert!(glns[..brps].windows(2).all(|two| two[0] > two[1]));
+        assert!((brps..64).all(|party| glns[party] == glns[party - brps]));
+        // Nothing else differs from the month of 02 records.
+        let of_02 = Size { brps: None, ..size };
+        assert_eq!(statement(&bench_file(&of_02, None)), statement(&file));
+    }
+}
+
 fn command(line: &str) -> Output {
     Command::new(env!("CARGO_BIN_EXE_second"))
         .args(line.split(' '))
@@ -114,9 +139,16 @@ fn the_command_writes_the_file() {
         let printed = command(&format!("{line} --fault {word}"));
         assert_eq!(printed.stdout, bench_file(&size, Some(fault)));
     }
+    let printed = command(&format!("{line} --brps 2"));
+    let of_12 = Size {
+        brps: Some(2),
+        ..size
+    };
+    assert_eq!(printed.stdout, bench_file(&of_12, None));
     for longest in [
         "bench-file --hours 1 --parties 4 --series fixed --readings most --span 1",
         "bench-file --hours 1 --parties 6 --series refixed --readings most --span 1",
+        "bench-file --hours 4 --parties 5 --brps 2 --series refixed --readings most --span 1",
     ] {
         assert_eq!(command(longest).stdout.len(), FILE_BYTES_MAX);
     }
@@ -133,6 +165,8 @@ fn sizes_that_no_file_has_are_not_made() {
         "bench-file --hours 3 --parties 2 --series fixed --readings 4 --span 4",
         "bench-file --hours 3 --parties 2 --series fixed --readings 6600 --span 1",
         "bench-file --hours 3 --parties 2 --series fixed --readings 4 --span 1 --fault none",
+        "bench-file --hours 3 --parties 2 --series fixed --readings 4 --span 1 --brps 0",
+        "bench-file --hours 3 --parties 2 --series fixed --readings 4 --span 1 --brps 3",
     ] {
         let printed = command(line);
         assert!(printed.stdout.is_empty(), "{line}");

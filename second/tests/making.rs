@@ -11,11 +11,13 @@ use std::process::{Command, Stdio};
 
 use second::check::{first_difference, Check, Feed};
 use second::damage::{BYTES_FAULTS, DRAFT_FAULTS, RANDOM_DAMAGES};
+use second::draft::Draft;
 use second::limits::FILE_BYTES_MAX;
 use second::make::{file, files, month, write_files, Aim, MadeFile, Tally, SHAPES};
 use second::month::{settle, Month, PartySums};
 use second::random::Random;
-use second::record::Weights;
+use second::record::{Weights, PARTY_WITH_BRP};
+use second::refusal::Number;
 use second::report::Report;
 use second::setting::Setting;
 
@@ -46,10 +48,10 @@ fn tally_of(report: Report, seed: u64, count: u64) -> Tally {
 }
 
 #[test]
-fn all_refusals_and_sizes_occur_in_200_files_for_every_report() {
+fn all_refusals_and_sizes_occur_in_300_files_for_every_report() {
     for seed in 0..5 {
         for report in Report::ALL {
-            let tally = tally_of(report, seed, 200);
+            let tally = tally_of(report, seed, 300);
             assert_eq!(tally.complete(), Ok(()), "seed {seed} {}", report.word());
             assert_eq!(tally.refused[16], 0);
         }
@@ -59,7 +61,7 @@ fn all_refusals_and_sizes_occur_in_200_files_for_every_report() {
 /// Most months are refixed, so that 17 hides little of what a final run judges after it; and enough are not.
 #[test]
 fn about_a_fifth_of_the_months_are_not_refixed() {
-    let made: Vec<MadeFile> = files(9, 1_800).collect();
+    let made: Vec<MadeFile> = files(9, 2_400).collect();
     for damaged in [true, false] {
         let months = made
             .iter()
@@ -68,8 +70,8 @@ fn about_a_fifth_of_the_months_are_not_refixed() {
         let share = not_refixed.len() as f64 / (refixed.len() + not_refixed.len()) as f64;
         assert!((0.15..0.3).contains(&share), "{share}");
     }
-    let as_final = tally_of(Report::Statement, 9, 1_800);
-    let as_provisional = tally_of(Report::Preview, 9, 1_800);
+    let as_final = tally_of(Report::Statement, 9, 2_400);
+    let as_provisional = tally_of(Report::Preview, 9, 2_400);
     assert!(as_final.accepted > 400 && as_final.not_refixed == 0);
     assert!(as_provisional.not_refixed > 100);
     // Everything that comes after the reading is still told by final runs, and by provisional ones of such months.
@@ -79,17 +81,98 @@ fn about_a_fifth_of_the_months_are_not_refixed() {
     }
 }
 
+/// Whether a file's first party is a 12 record.
+fn is_of_12_records(made: &MadeFile) -> bool {
+    made.bytes.get(10) == Some(&PARTY_WITH_BRP)
+}
+
+/// Most months have 02 records, as they had before W5, and enough have 12.
+#[test]
+fn about_a_third_of_the_months_has_12_records() {
+    let made: Vec<MadeFile> = files(10, 1_500).collect();
+    for damaged in [true, false] {
+        let months = made
+            .iter()
+            .filter(|made| (made.provisional_aim != Aim::Accepted) == damaged);
+        let (of_12, of_02): (Vec<_>, Vec<_>) = months.partition(|made| is_of_12_records(made));
+        let share = of_12.len() as f64 / (of_12.len() + of_02.len()) as f64;
+        assert!((0.25..0.45).contains(&share), "{share}");
+    }
+    // Everything that a final run can say is said of months of either kind.
+    for of_12 in [true, false] {
+        let mut tally = Tally::new(Setting::Final);
+        for made in made.iter().filter(|made| is_of_12_records(made) == of_12) {
+            tally.count(&settle(&made.bytes, Setting::Final));
+        }
+        let told = (1..=15).chain([17, 18]);
+        let untold: Vec<usize> = told.filter(|&number| tally.refused[number] == 0).collect();
+        assert_eq!(untold, [], "of 12 records: {of_12}");
+    }
+}
+
+/// W5's damages, with what each of them is refused with.
+const DAMAGES_OF_12_RECORDS: &[(&str, Number)] = &[
+    ("12 cut short", Number::BrokenFile),
+    ("a 12 after 02 records, cut short", Number::BrokenFile),
+    ("a 02 among 12 records", Number::OutOfOrder),
+    ("a 12 among 02 records", Number::OutOfOrder),
+    ("12 records, then 02 records", Number::OutOfOrder),
+    ("02 records, then 12 records", Number::OutOfOrder),
+    (
+        "a 02 after 12 records, out of range, with a bad GLN",
+        Number::OutOfOrder,
+    ),
+    (
+        "a 12 after 02 records, out of range, with bad GLNs",
+        Number::OutOfOrder,
+    ),
+    ("a 12 too few", Number::OutOfOrder),
+    ("a 12 too many", Number::OutOfOrder),
+    ("a 12 after the parties", Number::OutOfOrder),
+    ("load share of a 12", Number::OutsideRange),
+    ("load share and BRP GLN", Number::OutsideRange),
+    ("the first 12 marked as 02", Number::OutsideRange),
+    ("the first 02 marked as 12", Number::OutsideRange),
+    ("BRP GLN with a byte that is no digit", Number::BadGln),
+    (
+        "BRP GLN with a byte that is no digit, of a right sum",
+        Number::BadGln,
+    ),
+    ("BRP GLN with a wrong check digit", Number::BadGln),
+    (
+        "supplier GLNs of 12 records that do not rise",
+        Number::BadGln,
+    ),
+    ("BRP GLN, and a mixture after it", Number::BadGln),
+];
+
+/// Whatever the seed, the 1,500 files of a comparison have each of them several times.
+#[test]
+fn the_damages_of_12_records_are_reached_in_1_500_files() {
+    for seed in [4, 11] {
+        let made: Vec<MadeFile> = files(seed, 1_500).collect();
+        for &(name, number) in DAMAGES_OF_12_RECORDS {
+            let named = made.iter().filter(|made| made.name == name);
+            let told: Vec<Number> = named
+                .map(|made| settle(&made.bytes, Setting::Final).unwrap_err().number)
+                .collect();
+            assert!(told.len() >= 5, "seed {seed}, {name}: {}", told.len());
+            assert!(told.iter().all(|&told| told == number), "{name}");
+        }
+    }
+}
+
 #[test]
 fn what_did_not_occur_is_named() {
     let random = &mut Random::of_file(1, 1);
     for (setting, end) in [
         (
             Setting::Final,
-            "; refused 15; refused 17; refused 18; accepted, small; accepted, of full size; accepted, refixed",
+            "; refused 15; refused 17; refused 18; accepted, small; accepted, of full size; accepted, of 02 records; accepted, of 12 records; accepted, refixed",
         ),
         (
             Setting::Provisional,
-            "; refused 15; refused 18; accepted, small; accepted, of full size; accepted, refixed; accepted, not refixed",
+            "; refused 15; refused 18; accepted, small; accepted, of full size; accepted, of 02 records; accepted, of 12 records; accepted, refixed; accepted, not refixed",
         ),
     ] {
         let mut tally = Tally::new(setting);
@@ -101,12 +184,13 @@ fn what_did_not_occur_is_named() {
         );
         assert!(missing.ends_with(end), "{missing}");
         // Full size is 745 hours and 64 parties: either alone is small.
-        for (hours, parties) in [(744, 64), (745, 63), (745, 64)] {
-            let file = month(random, hours, parties, true, 2).bytes();
+        for (hours, parties, of_12) in [(744, 64, true), (745, 63, false), (745, 64, true)] {
+            let file = month_of_kind(random, hours, parties, true, of_12).bytes();
             tally.count(&settle(&file, setting));
         }
         assert_eq!((tally.accepted, tally.of_full_size), (3, 1));
-        let file = month(random, 2, 2, false, 2).bytes();
+        assert_eq!(tally.of_12_records, 2);
+        let file = month_of_kind(random, 2, 2, false, false).bytes();
         tally.count(&settle(&file, setting));
         let provisional = u64::from(setting == Setting::Provisional);
         let mut twice = Tally::new(setting);
@@ -114,15 +198,31 @@ fn what_did_not_occur_is_named() {
         twice.add(&tally);
         assert_eq!(twice.accepted, 6 + 2 * provisional);
         assert_eq!((twice.of_full_size, twice.not_refixed), (2, 2 * provisional));
+        assert_eq!(twice.of_12_records, 4);
         assert_eq!((twice.refused[1], twice.refused[17]), (2, 2 - 2 * provisional));
         let missing = twice.complete().unwrap_err();
         assert!(missing.ends_with("; refused 15; refused 18"), "{missing}");
     }
 }
 
+/// A month of this size and two readings, its parties as 12 records or as 02 records.
+fn month_of_kind(
+    random: &mut Random,
+    hours: usize,
+    parties: usize,
+    refixed: bool,
+    of_12: bool,
+) -> Draft {
+    let mut draft = month(random, hours, parties, refixed, 2);
+    for party in &mut draft.parties {
+        party.brp_gln = of_12.then_some(party.gln);
+    }
+    draft
+}
+
 #[test]
-fn all_shapes_occur_in_115_files_and_all_damages_in_one_round() {
-    let shapes: BTreeSet<&str> = files(3, 115)
+fn all_shapes_occur_in_123_files_and_all_damages_in_one_round() {
+    let shapes: BTreeSet<&str> = files(3, 123)
         .filter(|made| made.provisional_aim == Aim::Accepted)
         .map(|made| made.name)
         .collect();
@@ -139,6 +239,13 @@ fn all_shapes_occur_in_115_files_and_all_damages_in_one_round() {
 }
 
 type Property = fn(&MadeFile, &Month) -> bool;
+
+/// Whether the parties of a month are 12 records, and their GLNs and BRP GLNs are so.
+fn brps_are(month: &Month, is_so: impl Fn(&[&[u8]], &[&[u8]]) -> bool) -> bool {
+    let suppliers: Vec<&[u8]> = month.file.parties.iter().map(|party| party.gln).collect();
+    let brps: Option<Vec<&[u8]>> = month.file.parties.iter().map(|p| p.brp_gln).collect();
+    brps.is_some_and(|brps| is_so(&suppliers, &brps))
+}
 
 /// Whether a reading over several months is so, by its weights, its weight in this month, and its E.
 fn any_08(month: &Month, is_so: fn(Weights, u64, u32) -> bool) -> bool {
@@ -266,6 +373,55 @@ const PROPERTIES: &[(&str, Property)] = &[
         let mut all = sums.iter().map(rounded);
         all.any(|(remainder, is_up)| !is_up && remainders_up.contains(&remainder))
     }),
+    ("12 records, of full size", |_, month| {
+        month.hours.len() == 745 && brps_are(month, |suppliers, _| suppliers.len() == 64)
+    }),
+    ("12 records, of one party", |_, month| {
+        brps_are(month, |suppliers, _| suppliers.len() == 1)
+    }),
+    ("12 records, in 65,536 bytes", |made, month| {
+        made.bytes.len() == FILE_BYTES_MAX && brps_are(month, |_, _| true)
+    }),
+    ("one BRP for all", |_, month| {
+        brps_are(month, |_, brps| {
+            brps.len() > 1 && brps.iter().all(|brp| brp == &brps[0])
+        })
+    }),
+    ("12 records, each its own BRP", |_, month| {
+        brps_are(month, |suppliers, brps| brps.len() > 1 && brps == suppliers)
+    }),
+    ("BRP GLNs that fall", |_, month| {
+        brps_are(month, |_, brps| {
+            brps.windows(2).filter(|two| two[0] > two[1]).count() > 2
+        })
+    }),
+    (
+        "a BRP with suppliers of another between its own",
+        |_, month| {
+            brps_are(month, |_, brps| {
+                brps.windows(3)
+                    .any(|three| three[0] == three[2] && three[0] != three[1])
+            })
+        },
+    ),
+    ("a BRP that is another supplier", |_, month| {
+        brps_are(month, |suppliers, brps| {
+            let mut both = brps.iter().zip(suppliers);
+            both.any(|(brp, supplier)| brp != supplier && suppliers.contains(brp))
+        })
+    }),
+    ("the lowest and the highest GLN as BRPs", |_, month| {
+        brps_are(month, |_, brps| {
+            brps.contains(&&b"0000000000000"[..]) && brps.contains(&&b"9999999999994"[..])
+        })
+    }),
+    ("the carrier under a BRP of some, not of all", |_, month| {
+        let carrier = usize::from(month.file.heading.carrier);
+        brps_are(month, |_, brps| {
+            let same = brps.iter().filter(|&brp| brp == &brps[carrier]).count();
+            1 < same && same < brps.len()
+        })
+    }),
     ("largest amount", |_, month| {
         let mut sums = month.party_sums().into_iter();
         sums.any(|sums| sums.amount_millionths.abs() == 7_450_000_000_000_000_000)
@@ -380,11 +536,11 @@ fn check(
     check.run()
 }
 
-/// The check of a preview program, on files in one piece.
-fn check_preview(program: &Path, seed: u64, count: u64) -> Result<Tally, String> {
+/// The check of a program of this report, on files in one piece.
+fn check_report(report: Report, program: &Path, seed: u64, count: u64) -> Result<Tally, String> {
     let check = Check {
         program,
-        report: Report::Preview,
+        report,
         seed,
         count,
         feeds: &BOTH[..1],
@@ -397,20 +553,20 @@ fn check_preview(program: &Path, seed: u64, count: u64) -> Result<Tally, String>
 fn check_accepts_this_program_itself() {
     let directory = temporary("itself");
     let program = itself(&directory, "statement");
-    let tally = check(&program, 6, 200, BOTH, 1).unwrap();
+    let tally = check(&program, 6, 300, BOTH, 1).unwrap();
     assert_eq!(tally.complete(), Ok(()));
     assert_eq!(
         tally.to_string(),
-        tally_of(Report::Statement, 6, 200).to_string()
+        tally_of(Report::Statement, 6, 300).to_string()
     );
     // The same files on three threads.
-    let threaded = check(&program, 6, 200, BOTH, 3).unwrap();
+    let threaded = check(&program, 6, 300, BOTH, 3).unwrap();
     assert_eq!(threaded.to_string(), tally.to_string());
-    let tally = check_preview(&itself(&directory, "preview"), 6, 200).unwrap();
+    let tally = check_report(Report::Preview, &itself(&directory, "preview"), 6, 300).unwrap();
     assert_eq!(tally.complete(), Ok(()));
     assert_eq!(
         tally.to_string(),
-        tally_of(Report::Preview, 6, 200).to_string()
+        tally_of(Report::Preview, 6, 300).to_string()
     );
     fs::remove_dir_all(directory).unwrap();
 }
@@ -434,7 +590,9 @@ fn check_finds_wrong_previews_and_wrong_final_programs() {
         script(&directory, &format!("'{second}' {report} | sed '{edit}'"))
     };
     let wrong_preview = |program: &Path| {
-        let message = check_preview(program, 19, 60).err().unwrap();
+        let message = check_report(Report::Preview, program, 19, 60)
+            .err()
+            .unwrap();
         (left_file(&message, 19), message)
     };
     let (made, message) = wrong_preview(&itself(&directory, "statement"));
@@ -489,6 +647,27 @@ fn check_finds_wrong_previews_and_wrong_final_programs() {
         message.contains("line 1 is to be \"refused 15 at "),
         "{message}"
     );
+    fs::remove_dir_all(&directory).unwrap();
+}
+
+/// The wrong programs of W5: the statement in the BRP program's place, the lines in file order, the last one left out.
+#[test]
+fn check_finds_wrong_brp_programs() {
+    let directory = temporary("wrong-brp");
+    let second = env!("CARGO_BIN_EXE_second");
+    for (number, wrong) in [
+        format!("'{second}' statement"),
+        format!("'{second}' brp | sort -r"),
+        format!("'{second}' brp | sed 'N;$!P;$!D;$d'"),
+    ]
+    .into_iter()
+    .enumerate()
+    {
+        let program = script(&directory, &wrong);
+        let message = check_report(Report::Brp, &program, 20, 60).err().unwrap();
+        let made = left_file(&message, 20);
+        assert!(number > 0 || is_of_12_records(&made), "{message}");
+    }
     fs::remove_dir_all(&directory).unwrap();
 }
 
@@ -612,10 +791,10 @@ fn the_check_command_fails_where_something_did_not_occur() {
             .output()
             .unwrap()
     };
-    let all = command("16", "200", &["--threads", "2"]);
+    let all = command("16", "300", &["--threads", "2"]);
     let text = String::from_utf8(all.stdout).unwrap();
     assert!(
-        text.contains("seed 16: 200 files, none differs (statement, both, "),
+        text.contains("seed 16: 300 files, none differs (statement, both, "),
         "{text}"
     );
     assert!(all.status.success());
@@ -642,16 +821,16 @@ fn the_check_command_fails_where_something_did_not_occur() {
 #[test]
 fn the_check_command_takes_the_report_by_name() {
     let directory = temporary("report");
-    for report in ["hours", "preview"] {
+    for report in ["hours", "preview", "brp"] {
         let program = itself(&directory, report);
         let checked = Command::new(env!("CARGO_BIN_EXE_second"))
-            .args(["check", "--seed", "18", "--count", "200", "--program"])
+            .args(["check", "--seed", "22", "--count", "300", "--program"])
             .arg(&program)
             .args(["--threads", "2", "--report", report])
             .output()
             .unwrap();
         let text = String::from_utf8(checked.stdout).unwrap();
-        let end = format!("seed 18: 200 files, none differs ({report}, both, ");
+        let end = format!("seed 22: 300 files, none differs ({report}, both, ");
         assert!(text.contains(&end), "{text}");
         assert!(checked.status.success());
     }

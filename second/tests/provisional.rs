@@ -35,7 +35,8 @@ fn only_the_preview_is_provisional() {
         [
             ("statement", Setting::Final),
             ("hours", Setting::Final),
-            ("preview", Setting::Provisional)
+            ("preview", Setting::Provisional),
+            ("brp", Setting::Final)
         ]
     );
     for report in Report::ALL {

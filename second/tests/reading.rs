@@ -58,7 +58,9 @@ fn a3_a_cut_body_is_1_at_its_record() {
 fn a4_a_lone_kind_byte_is_1_if_known_and_2_if_not() {
     assert_refused(&[0x01], 1, 0);
     assert_refused(&[0x08], 1, 0);
+    assert_refused(&[0x12], 1, 0);
     assert_refused(&[0x09], 2, 0);
+    assert_refused(&[0x11], 2, 0);
     let mut file = s1().bytes();
     file.truncate(10 + 22);
     file.push(0x02);
@@ -429,7 +431,7 @@ fn a24_month_and_hours_are_not_compared() {
 
 #[test]
 fn a100_kinds_that_have_not_landed_are_2() {
-    for kind in [0x00, 0x09, 0x0A, 0x0B, 0x12, 0xFF] {
+    for kind in [0x00, 0x09, 0x0A, 0x0B, 0x11, 0x13, 0xFF] {
         for place in 0..23 {
             let file = records_changed(|records| records[place][0] = kind);
             assert_refused(&file, 2, place);

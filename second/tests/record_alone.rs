@@ -1,4 +1,5 @@
-//! One record alone, READINGS A41 to A45, and the record 08 of W3: writing, reading, and the way there and back.
+//! One record alone, READINGS A41 to A45, the record 08 of W3 and the record 12 of W5: writing, reading, and the way there
+//! and back.
 
 mod common;
 
@@ -28,7 +29,12 @@ const HOUR: HourFlows = HourFlows {
 const READING: Reading = Reading::of_month(63, 744, 745, 1_000_000_000);
 const PARTY: Party = Party {
     gln: b"5790001330552",
+    brp_gln: None,
     load_share_kwh: 4_000_000_000,
+};
+const PARTY_WITH_BRP: Party = Party {
+    brp_gln: Some(b"0000000000017"),
+    ..PARTY
 };
 
 fn written(record: Record) -> Result<usize, second::refusal::Refusal> {
@@ -40,12 +46,17 @@ fn written(record: Record) -> Result<usize, second::refusal::Refusal> {
 fn assert_refused(record: Record, number: u8) {
     assert_eq!(told(written(record)), (number, 0));
     assert_eq!(told(read_alone(&record.encode())), (number, 0));
-    let gln = match record {
-        Record::Party(party) => party.gln,
-        _ => b"",
+    assert_eq!(told(written_plain(record)), (number, 0));
+}
+
+/// What the plain entry point says of a record, its GLNs beside its numbers.
+fn written_plain(record: Record) -> Result<usize, second::refusal::Refusal> {
+    let (gln, brp_gln) = match record {
+        Record::Party(party) => (party.gln, party.brp_gln.unwrap_or_default()),
+        _ => (&b""[..], &b""[..]),
     };
-    let plain = write_plain(record.kind().into(), &record.fields(), gln, &mut [0; 36]);
-    assert_eq!(told(plain), (number, 0));
+    let kind = record.kind().into();
+    write_plain(kind, &record.fields(), gln, brp_gln, &mut [0; 36])
 }
 
 #[test]
@@ -82,6 +93,9 @@ fn the_bytes_of_a_record_are_kind_and_big_endian_fields() {
     assert_eq!(write(&Record::Party(PARTY), &mut lent), Ok(22));
     assert_eq!(&lent[..14], b"\x025790001330552");
     assert_eq!(lent[14..22], [0, 0, 0, 0, 0xEE, 0x6B, 0x28, 0]);
+    assert_eq!(write(&Record::Party(PARTY_WITH_BRP), &mut lent), Ok(35));
+    assert_eq!(&lent[..27], b"\x1257900013305520000000000017");
+    assert_eq!(lent[27..35], [0, 0, 0, 0, 0xEE, 0x6B, 0x28, 0]);
     assert_eq!(write(&Record::End(0x0102_0304), &mut lent), Ok(5));
     assert_eq!(lent[..5], [7, 1, 2, 3, 4]);
 }
@@ -260,6 +274,7 @@ fn a42_a_party_is_4_then_5() {
     let party = |gln, load_share_kwh| {
         Record::Party(Party {
             gln,
+            brp_gln: None,
             load_share_kwh,
         })
     };
@@ -271,6 +286,71 @@ fn a42_a_party_is_4_then_5() {
         assert_eq!(told(written(party(gln, 0))), (5, 0));
         assert_eq!(told(written(party(gln, u64::MAX))), (4, 0));
     }
+}
+
+/// "a bad BRP GLN is 5" (02, W5): for itself, and the supplier's for itself; the load share comes before both.
+#[test]
+fn w5_a_party_with_brp_is_4_then_5() {
+    let party = |gln, brp_gln, load_share_kwh| {
+        Record::Party(Party {
+            gln,
+            brp_gln: Some(brp_gln),
+            load_share_kwh,
+        })
+    };
+    let good: &[u8] = b"5790001330552";
+    // "BRP GLNs need not rise and may repeat": nor need they differ from the supplier's, or come after it.
+    for brp in [good, b"0000000000000", b"9999999999994"] {
+        let record = party(good, brp, 4_000_000_000);
+        assert_eq!(written(record), Ok(35));
+        assert_eq!(written_plain(record), Ok(35));
+        assert_eq!(read_alone(&record.encode()), Ok((record, 35)));
+    }
+    for bad in [b"579000133055X", b"5790001330553", b"57900:1330552"] {
+        assert_refused(party(good, bad, 0), 5);
+        assert_refused(party(bad, good, 0), 5);
+        assert_refused(party(bad, bad, 4_000_000_000), 5);
+        assert_refused(party(good, bad, 4_000_000_001), 4);
+        assert_refused(party(bad, good, u64::MAX), 4);
+    }
+    // A GLN of another length has no bytes of its own to be read, nor have two that are of 26 together.
+    for other in [&b""[..], b"579000133055", b"57900013305520"] {
+        for (gln, brp_gln) in [(good, other), (other, good), (other, other)] {
+            assert_eq!(told(written(party(gln, brp_gln, 0))), (5, 0));
+            assert_eq!(told(written_plain(party(gln, brp_gln, 0))), (5, 0));
+            assert_eq!(told(written(party(gln, brp_gln, u64::MAX))), (4, 0));
+        }
+    }
+    assert_refused_lengths(
+        party(b"579000133055", b"20000000000017", 0),
+        party(good, b"0000000000017", 0),
+    );
+}
+
+/// Two parties of the same bytes, of which the first has them divided wrongly between its GLNs.
+fn assert_refused_lengths(wrong: Record, right: Record) {
+    assert_eq!(wrong.encode(), right.encode());
+    assert_eq!(told(written(wrong)), (5, 0));
+    assert_eq!(written(right), Ok(35));
+}
+
+/// 16 comes last, and then nothing is written.
+#[test]
+fn w5_a_part_shorter_than_a_12_is_16() {
+    for length in 0..35 {
+        let mut lent = vec![0xEE; length];
+        let record = Record::Party(PARTY_WITH_BRP);
+        assert_eq!(told(write(&record, &mut lent)), (16, 0));
+        assert_eq!(lent, vec![0xEE; length]);
+        let bad = Party {
+            brp_gln: Some(b"0000000000018"),
+            ..PARTY_WITH_BRP
+        };
+        assert_eq!(told(write(&Record::Party(bad), &mut lent)), (5, 0));
+    }
+    let mut longer = [0xEE; 36];
+    assert_eq!(write(&Record::Party(PARTY_WITH_BRP), &mut longer), Ok(35));
+    assert_eq!(longer[35], 0xEE);
 }
 
 #[test]
@@ -389,8 +469,8 @@ fn a42_the_end_count_is_any() {
 
 #[test]
 fn a43_the_plain_writer_tests_the_kind_first() {
-    for kind in [0, 9, 10, 18, 255, 256 + 8, u64::MAX] {
-        let refused = write_plain(kind, &[i128::MIN; 9], b"", &mut []);
+    for kind in [0, 9, 10, 12, 17, 19, 255, 256 + 8, 256 + 18, u64::MAX] {
+        let refused = write_plain(kind, &[i128::MIN; 9], b"", b"", &mut []);
         assert_eq!(told(refused), (2, 0));
     }
 }
@@ -406,10 +486,12 @@ fn a43_the_plain_writer_wants_the_fields_of_the_kind() {
         (6, 6),
         (7, 1),
         (8, 6),
+        (18, 1),
     ];
+    let gln = b"5790001330552";
     for (kind, fields) in kinds {
         for other in (0..9).filter(|&length| length != fields) {
-            let refused = write_plain(kind, &vec![1; other], b"5790001330552", &mut [0; 40]);
+            let refused = write_plain(kind, &vec![1; other], gln, gln, &mut [0; 40]);
             assert_eq!(told(refused), (4, 0));
         }
     }
@@ -417,14 +499,16 @@ fn a43_the_plain_writer_wants_the_fields_of_the_kind() {
 
 #[test]
 fn a43_numbers_that_no_field_holds() {
-    let plain =
-        |kind, fields: &[i128]| told(write_plain(kind, fields, b"5790001330552", &mut [0; 40]));
+    let gln = b"5790001330552";
+    let plain = |kind, fields: &[i128]| told(write_plain(kind, fields, gln, gln, &mut [0; 40]));
     // Beyond the field's bytes it is outside the range, and is not cut to something good.
     assert_eq!(plain(1, &[65_536 + 7, 2016, 4, 3, 3, 2]), (4, 0));
     assert_eq!(plain(1, &[7, 2016, 4, 3, 256 + 3, 2]), (4, 0));
     assert_eq!(plain(1, &[7, 2016, 4, 3, 3, 256 + 2]), (4, 0));
     assert_eq!(plain(2, &[(1 << 64) + 5]), (4, 0));
     assert_eq!(plain(2, &[-1]), (4, 0));
+    assert_eq!(plain(18, &[(1 << 64) + 5]), (4, 0));
+    assert_eq!(plain(18, &[-1]), (4, 0));
     assert_eq!(plain(3, &[0, 1, 1 << 64, 0, 0, 0]), (4, 0));
     assert_eq!(plain(3, &[0, 257, 0, 0, 0, 0]), (4, 0));
     assert_eq!(plain(5, &[0, 1 << 32]), (4, 0));
@@ -451,11 +535,11 @@ fn a43_numbers_that_no_field_holds() {
 #[test]
 fn a44_a_record_alone_is_1_2_1_then_its_fields() {
     assert_eq!(told(read_alone(&[])), (1, 0));
-    for kind in [0x00, 0x09, 0x0A, 0x12, 0xFF] {
+    for kind in [0x00, 0x09, 0x0A, 0x11, 0x13, 0xFF] {
         assert_eq!(told(read_alone(&[kind])), (2, 0));
         assert_eq!(told(read_alone(&[kind; 64])), (2, 0));
     }
-    for kind in 1..=8 {
+    for kind in (1..=8).chain([0x12]) {
         let length = body_length(kind).unwrap();
         for cut in 0..length {
             let mut part = vec![0xFF; 1 + cut];
@@ -476,8 +560,8 @@ fn a45_bytes_after_a_record_alone_are_not_looked_at() {
     assert_eq!(read_alone(&part), Ok((Record::Heading(HEADING), 10)));
 }
 
-/// A record of random good fields.
-fn random_record<'a>(random: &mut Random, gln: &'a [u8; 13]) -> Record<'a> {
+/// A record of random good fields, with these GLNs if it is a party.
+fn random_record<'a>(random: &mut Random, [gln, brp_gln]: &'a [[u8; 13]; 2]) -> Record<'a> {
     let hour = random.below(745) as u16;
     let flows = HourFlows {
         hour,
@@ -490,7 +574,7 @@ fn random_record<'a>(random: &mut Random, gln: &'a [u8; 13]) -> Record<'a> {
     let b = random.between(i64::from(hour) + 1, 745) as u16;
     let e_wh = random.any_size(1_000_000_000) as u32;
     let reading = Reading::of_month(random.below(64) as u8, hour, b, e_wh);
-    match random.below(8) {
+    match random.below(9) {
         0 => {
             let parties = 1 + random.below(64);
             Record::Heading(Heading {
@@ -504,6 +588,7 @@ fn random_record<'a>(random: &mut Random, gln: &'a [u8; 13]) -> Record<'a> {
         }
         1 => Record::Party(Party {
             gln,
+            brp_gln: None,
             load_share_kwh: random.any_size(4_000_000_000),
         }),
         2 => Record::Fixed(flows),
@@ -517,8 +602,18 @@ fn random_record<'a>(random: &mut Random, gln: &'a [u8; 13]) -> Record<'a> {
             let (before, whole) = (random.any_size(u64::MAX), random.any_size(u64::MAX));
             Record::Reading(reading.weighing(before, whole))
         }
+        7 => Record::Party(Party {
+            gln,
+            brp_gln: Some(brp_gln),
+            load_share_kwh: random.any_size(4_000_000_000),
+        }),
         _ => Record::End(random.bits() as u32),
     }
+}
+
+/// Two GLNs, in any order.
+fn random_glns(random: &mut Random) -> [[u8; 13]; 2] {
+    [(); 2].map(|()| with_check_digit(random.below(1_000_000_000_000) as u64))
 }
 
 /// "A record written is read back the same".
@@ -526,8 +621,8 @@ fn random_record<'a>(random: &mut Random, gln: &'a [u8; 13]) -> Record<'a> {
 fn written_records_are_read_back() {
     let random = &mut Random::of_file(44, 0);
     for _ in 0..5_000 {
-        let gln = with_check_digit(random.below(1_000_000_000_000) as u64);
-        let record = random_record(random, &gln);
+        let glns = random_glns(random);
+        let record = random_record(random, &glns);
         let mut lent = [0xEE; 50];
         let length = write(&record, &mut lent).unwrap();
         assert_eq!(length, 1 + body_length(record.kind()).unwrap());
@@ -538,7 +633,7 @@ fn written_records_are_read_back() {
         let mut plain = [0xEE; 50];
         let kind = u64::from(record.kind());
         assert_eq!(
-            write_plain(kind, &record.fields(), &gln, &mut plain),
+            write_plain(kind, &record.fields(), &glns[0], &glns[1], &mut plain),
             Ok(length)
         );
         assert_eq!(plain, lent);
@@ -551,8 +646,8 @@ fn read_records_are_written_back() {
     let random = &mut Random::of_file(45, 0);
     let mut accepted = 0;
     for _ in 0..20_000 {
-        let gln = with_check_digit(random.below(1_000_000_000_000) as u64);
-        let mut bytes = random_record(random, &gln).encode();
+        let glns = random_glns(random);
+        let mut bytes = random_record(random, &glns).encode();
         let flipped = random.below(bytes.len());
         bytes[flipped] ^= 1 << random.below(8);
         let Ok((record, length)) = read_alone(&bytes) else {

@@ -5,7 +5,9 @@ use std::fs::{self, File};
 use std::path::PathBuf;
 use std::process::{Command, Output, Stdio};
 
-use second::examples::{example, full, ore, NAMES};
+use second::brp::brp;
+use second::examples::{self, example, full, ore, NAMES};
+use second::invoice::invoice;
 use second::month::settle;
 use second::report::Report;
 use second::setting::Setting;
@@ -61,6 +63,26 @@ fn the_ore_month_has_a_tie_and_three_missing_ore() {
     assert_eq!(amounts, [750_000, 500_000, -500_000, -1_250_000, 500_000]);
     let invoices: Vec<i64> = sums.iter().map(|sums| sums.invoice_ore).collect();
     assert_eq!(invoices, [1, 1, -1, -1, 0]);
+}
+
+/// The figures of examples/README.md: what the suppliers' whole øre come to, and what those of the BRPs' exact amounts would.
+#[test]
+fn the_brp_month_shows_when_the_whole_ore_are_made() {
+    let bytes = examples::brp().bytes();
+    let sums = settle(&bytes, Setting::Final).unwrap().party_sums();
+    let invoices: Vec<i64> = sums.iter().map(|sums| sums.invoice_ore).collect();
+    assert_eq!(invoices, [1, 1, -2]);
+    let text = brp(&bytes);
+    let ends = text.lines().skip(1).map(|line| line.rsplit(' ').next());
+    assert_eq!(ends.collect::<Vec<_>>(), ["1", "-1", "0"].map(Some));
+    let amounts: Vec<i64> = sums.iter().map(|sums| sums.amount_millionths).collect();
+    let of_brps = [amounts[1], amounts[0] + amounts[2]];
+    assert_eq!(invoice(&of_brps, 2), Ok(vec![0, 0]));
+    // Its BRP report alone differs from the statement.
+    for name in NAMES {
+        let file = example(name).unwrap();
+        assert_eq!(brp(&file) == statement(&file), name != "brp", "{name}");
+    }
 }
 
 #[test]

@@ -1,5 +1,6 @@
 //! What several tests share.
 
+use second::brp::brp;
 use second::draft::{measured_hour, prices_of, Draft, DraftParty};
 use second::gln::with_check_digit;
 use second::hours::hours;
@@ -22,10 +23,8 @@ pub fn told<T>(answer: Result<T, Refusal>) -> (u8, usize) {
 pub fn month_of(shares_kwh: &[u64], residuals_wh: &[i64], readings: &[Reading]) -> Draft {
     let hours = residuals_wh.iter().enumerate();
     let series: Vec<HourFlows> = hours.map(|(hour, &wh)| measured_hour(hour, wh)).collect();
-    let party = |(number, &load_share_kwh): (u64, &u64)| DraftParty {
-        gln: with_check_digit(number),
-        load_share_kwh,
-    };
+    let party =
+        |(number, &share_kwh): (u64, &u64)| DraftParty::of_02(with_check_digit(number), share_kwh);
     Draft {
         heading: Heading {
             area: 7,
@@ -59,6 +58,7 @@ pub fn assert_refused_as_final(file: &[u8], number: u8, place: usize) {
     let line = format!("refused {number} at {place}\n");
     assert_eq!(statement(file), line);
     assert_eq!(hours(file), line);
+    assert_eq!(brp(file), line);
 }
 
 /// That the preview of a file is this one refusal line.
@@ -76,6 +76,7 @@ pub fn assert_accepted(file: &[u8]) {
     assert!(text.starts_with("area "), "{text}");
     assert!(hours(file).starts_with("area "));
     assert_eq!(preview(file), text);
+    assert!(brp(file).starts_with("area "));
 }
 
 /// That a file is settled as a provisional month, and refused as a final one.
