@@ -6,7 +6,7 @@ use mathlib.Core.Path.{_≡_, refl, sym, _∙_, ap, ap₂, fun-ext}
 use Prim.Native.Nat.{ℕ, zero, suc, _<_}
 use native.Mathlib.Nat.{le-refl}
 use native.Mathlib.Omega.{arith}
-use borrow.Author.Tests.{eq-eqb, ne-eqb}
+use borrow.Author.Tests.{eqb-true, eq-eqb, ne-eqb}
 use lib.Dec.{eqb}
 use lib.IntN.{ℤ, pos, natAbs, _+ℤ_, +ℤ-idl, +ℤ-idr}
 use Rattle.rules.specs.Brp.{differentOnes, suppliesFor, onlyOf, onlyOfℤ, sumOfBrp, sumOfBrpℤ, brpDistributed, brpPeriodised, brpLoss, brpDifference}
@@ -18,7 +18,8 @@ use Rattle.rules.specs.Reconciliation.{lossOf}
 use Rattle.rules.specs.WellFormed.{Every}
 use Rattle.rules.specs.Words.{sum, sumℤ}
 use Rattle.rules.proofs.DifferentOnes.{every-weaker, every-number, every-in, ones-rise, each-is-in}
-use Rattle.rules.proofs.Integers.{interchange, sumℤ-pos, sumℤ-zero, sumℤ-swap}
+use Rattle.rules.proofs.Integers.{interchange, sumℤ-cong, sumℤ-pos, sumℤ-zero, sumℤ-swap}
+use Rattle.rules.proofs.Reconciliation.{one-carries-the-loss}
 use Rattle.rules.proofs.Sums.{sum-zero, sum-swap}
 
 -- THE FIGURES BY NUMBER ADD UP TO THE FIGURES OF ALL: each figure is counted at its own number, and at no other. First, sums over the numbers of a list: of nothing,
@@ -125,3 +126,20 @@ module _ (m : MonthFile) (brp : ℕ) where
   pub brp-month-difference : brpMonthDifference m brp ≡ sumOfBrpℤ m brp (monthDifference m)
   unfolding brpMonthDifference brpDifference sumOfBrpℤ monthDifference
   brp-month-difference = hours-of-someℤ (H m) (P m) (suppliesFor m brp) (difference m)
+
+-- THE BRP OF THE CARRIER HAS THE LOSS, and no other
+pub brp-has-the-loss : (n carrier : ℕ) (some : ℕ → Bool) (loss : ℤ) → carrier < n → sumℤ n (onlyOfℤ some (lossOf carrier loss)) ≡ cond (some carrier) loss (pos 0)
+unfolding onlyOfℤ lossOf
+brp-has-the-loss n carrier some loss b =
+    sumℤ-cong n (λ i c. of-one i) ∙ one-carries-the-loss n carrier (cond (some carrier) loss (pos 0)) b
+  where
+    nothing : (t : Bool) → cond t (pos 0) (pos 0) ≡ pos 0
+    nothing true = refl
+    nothing false = refl
+
+    of-one : (i : ℕ) → cond (some i) (cond (eqb i carrier) loss (pos 0)) (pos 0) ≡ cond (eqb i carrier) (cond (some carrier) loss (pos 0)) (pos 0)
+    of-one i = go (eqb i carrier) refl
+      where
+        go : (t : Bool) → eqb i carrier ≡ t → cond (some i) (cond t loss (pos 0)) (pos 0) ≡ cond t (cond (some carrier) loss (pos 0)) (pos 0)
+        go true e = ap (λ (k : ℕ). cond (some k) loss (pos 0)) (eqb-true i carrier e)
+        go false e = nothing (some i)

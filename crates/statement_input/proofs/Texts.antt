@@ -1,5 +1,5 @@
 -- What stands at the start of the buffer is the text of the input: an accepted month's lines, the refusal line of a file, that of an input that is too long; and
--- what a program prints of an input is therefore its statement under the setting that the program asks for.
+-- what a program prints of an input is therefore its statement, per party or per BRP, under the setting that the program asks for.
 use mathlib.Core.List.{List}
 use mathlib.Core.Path.{_≡_, refl, sym, _∙_, ap}
 use Prim.Native.Nat.{ℕ, _≤_}
@@ -12,7 +12,7 @@ use Rattle.answer.specs.declared.Refusal.{Refusal}
 use Rattle.rules.specs.Month.{fileVerdict}
 use Rattle.rules.specs.Refusals.{Verdict, refused, unless, afterwards}
 use Rattle.rules.specs.Setting as Run
-use Rattle.rules.specs.Statement.{statement}
+use Rattle.rules.specs.Statement as T
 use Rattle.rules.proofs.Refusals.{then-accepted, given-tells, refusal-tells}
 use Rattle.setting.specs.Asked.{asked}
 use Rattle.setting.specs.declared.Setting.{Setting}
@@ -21,8 +21,8 @@ use Rattle.standard_input.specs.declared.Ending.{Ending}
 use Rattle.standard_input.specs.declared.Ending.the-variants.{Whole, TooLong, Failed}
 use Rattle.standard_input.proofs.Endings.{whole-text, too-long-text, failed-text}
 use Rattle.statement_input.specs.Inputs.{Printed, inputText}
-use Rattle.statement_text.specs.Lines.{statementRoom}
-use Rattle.statement_text.specs.Stating.{verdict, told, textVerdict, Promised}
+use Rattle.statement_text.specs.Stating.{perOf, statementRoom, verdict, told, textVerdict, Promised}
+use Rattle.statement_text.specs.declared.Per.{Per}
 use Rattle.statement_text.specs.declared.Stated.{Stated}
 use Rattle.statement_text.specs.declared.Stated.the-variants.{Lines, Refused}
 use Rattle.statement_text.proofs.Statements.{refusal-text, too-long-line}
@@ -36,12 +36,12 @@ unfolding atStart
 line-printed {text} enough line =
     record { told = line .put .ends ∙ zero-add (length text); contents = put-at-start (line .put) (omega (arith, line .within)) }
 
-module _ (setting : Setting) (file old : List ℕ) {held : List ℕ} {stated : Stated} (p : Promised setting file old stated held) where
+module _ (setting : Setting) (per : Per) (file old : List ℕ) {held : List ℕ} {stated : Stated} (p : Promised setting per file old stated held) where
   abbrev v : Verdict
   v = textVerdict setting file (length old)
 
   abbrev text : List ℕ
-  text = statement (asked setting) file
+  text = T.statementPer (perOf per) (asked setting) file
 
   -- AN ACCEPTED MONTH: its lines stand there already
   pub lines-printed : {n : ℕ} → stated ≡ Lines n → Printed text old n held
@@ -61,7 +61,7 @@ module _ (setting : Setting) (file old : List ℕ) {held : List ℕ} {stated : S
     refusal-is : refusalText (verdict stated) ≡ text
     refusal-is =
         let told-so : v ≡ refused (named r) place = refusal-tells v (length text) (sym (ap told e) ∙ p .answer) in
-        ap (λ (s : Stated). refusalText (verdict s)) e ∙ sym (refusal-text (asked setting) file (sym only-the-file ∙ told-so))
+        ap (λ (s : Stated). refusalText (verdict s)) e ∙ sym (refusal-text (asked setting) (perOf per) file (sym only-the-file ∙ told-so))
 
     untouched : held ≡ old
     unfolding afterwards
@@ -71,8 +71,8 @@ module _ (setting : Setting) (file old : List ℕ) {held : List ℕ} {stated : S
     refusal-printed enough put = rw (refusal-is, untouched) at (line-printed enough put)
 
 -- AN INPUT, by how its reading ended
-module _ (setting : Run.Setting) (bytes : List ℕ) {ending : Ending} {old : List ℕ} where
-  pub of-whole : ending ≡ Whole → {n : ℕ} {new : List ℕ} → Printed (statement setting bytes) old n new → Printed (inputText setting ending bytes) old n new
+module _ (per : T.Per) (setting : Run.Setting) (bytes : List ℕ) {ending : Ending} {old : List ℕ} where
+  pub of-whole : ending ≡ Whole → {n : ℕ} {new : List ℕ} → Printed (T.statementPer per setting bytes) old n new → Printed (inputText per setting ending bytes) old n new
   of-whole e p = rw e p
 
   pub of-too-long :
@@ -80,24 +80,24 @@ module _ (setting : Run.Setting) (bytes : List ℕ) {ending : Ending} {old : Lis
       → {room n : ℕ} {new : List ℕ}
       → room ≤ length old
       → LinePut (endedText (ended ending)) old 0 room new n
-      → Printed (inputText setting ending bytes) old n new
+      → Printed (inputText per setting ending bytes) old n new
   of-too-long e enough line = rw e (rw e at (line-printed enough line))
 
-  pub of-failed : ending ≡ Failed → Printed (inputText setting ending bytes) old 0 old
+  pub of-failed : ending ≡ Failed → Printed (inputText per setting ending bytes) old 0 old
   unfolding atStart
   of-failed e = rw e (record { told = refl; contents = refl })
 
 -- WHAT IS PRINTED OF AN INPUT IS ITS STATEMENT under the setting
 pub input-printed :
-    (setting : Run.Setting) (bytes : List ℕ) (ending : Ending) {old new : List ℕ} {n : ℕ}
+    (per : T.Per) (setting : Run.Setting) (bytes : List ℕ) (ending : Ending) {old new : List ℕ} {n : ℕ}
     → FullyRead ending bytes
-    → Printed (inputText setting ending bytes) old n new
-    → (n ≤ length new) × TextOf (statement setting) ending bytes (take n new)
-input-printed setting bytes ending {old} {new} {n} full p =
-    let stands : Stands n new (inputText setting ending bytes) = rw (p .contents, p .told) (stands-at-start (inputText setting ending bytes) old) in
+    → Printed (inputText per setting ending bytes) old n new
+    → (n ≤ length new) × TextOf (T.statementPer per setting) ending bytes (take n new)
+input-printed per setting bytes ending {old} {new} {n} full p =
+    let stands : Stands n new (inputText per setting ending bytes) = rw (p .contents, p .told) (stands-at-start (inputText per setting ending bytes) old) in
     (stands .0, go ending full (stands .1))
   where
-    go : (x : Ending) → FullyRead x bytes → take n new ≡ inputText setting x bytes → TextOf (statement setting) x bytes (take n new)
-    go Whole full is = whole-text (statement setting) bytes refl is
-    go TooLong full is = too-long-text (statement setting) bytes (too-long-line setting) full refl is
-    go Failed full is = failed-text (statement setting) bytes refl
+    go : (x : Ending) → FullyRead x bytes → take n new ≡ inputText per setting x bytes → TextOf (T.statementPer per setting) x bytes (take n new)
+    go Whole full is = whole-text (T.statementPer per setting) bytes refl is
+    go TooLong full is = too-long-text (T.statementPer per setting) bytes (too-long-line setting per) full refl is
+    go Failed full is = failed-text (T.statementPer per setting) bytes refl

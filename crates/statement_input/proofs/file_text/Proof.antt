@@ -25,7 +25,7 @@ returns c =
     let refused = c .before .before .before .before in
     let stating = refused .before .before .before .before in
     let start = stating .before .before .before .before in
-    refusal-printed _ _ _ (stating .statement .ensures) (start .pre) (refused .enum-told .given .1) (search needs) (line .ensures)
+    refusal-printed _ _ _ _ (stating .statement .ensures) (start .pre) (refused .enum-told .given .1) (search needs) (line .ensures)
 
 same-length-2 : tie.Need-same-length-2
 same-length-2 c = search needs
@@ -33,7 +33,7 @@ same-length-2 c = search needs
 returns-2 : tie.Need-returns-2
 returns-2 c =
     let stating = c .before .before .before .before .before in
-    lines-printed _ _ _ (stating .statement .ensures) (c .before .stated .given .1)
+    lines-printed _ _ _ _ (stating .statement .ensures) (c .before .stated .given .1)
 
 pub file-text-spec : {M : Type 1} → statement M
 file-text-spec =

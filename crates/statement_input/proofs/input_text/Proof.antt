@@ -26,7 +26,7 @@ returns : tie.Need-returns
 returns c =
     let after-file-text = c .before .before in
     let ending-told = after-file-text .before .before in
-    of-whole _ _ (ending-told .enum-told .given .1) (after-file-text .file-text .ensures)
+    of-whole _ _ _ (ending-told .enum-told .given .1) (after-file-text .file-text .ensures)
 
 same-length-2 : tie.Need-same-length-2
 same-length-2 c = search needs
@@ -35,10 +35,10 @@ returns-2 : tie.Need-returns-2
 returns-2 c =
     let line = c .before .before in
     let ending-told = line .before .before in
-    of-too-long _ _ (ending-told .enum-told2 .given .1) (search needs) (line .refusal-line .ensures)
+    of-too-long _ _ _ (ending-told .enum-told2 .given .1) (search needs) (line .refusal-line .ensures)
 
 returns-3 : tie.Need-returns-3
-returns-3 c = of-failed _ _ (c .enum-told3 .given .1)
+returns-3 c = of-failed _ _ _ (c .enum-told3 .given .1)
 
 pub input-text-spec : {M : Type 1} → statement M
 input-text-spec =

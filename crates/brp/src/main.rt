@@ -1,0 +1,60 @@
+// THE BRP PROGRAM (02, W5: "Our balance responsible customers want their own statement"): it reads one month file from standard input and prints "one line per BRP, in rising
+// GLN order, with the statement's columns, between its heading and total lines", or `refused N at P`. Its setting is final: only the preview asks for provisional.
+//
+// What is proved of it: it is safe and ends, given that each read and write returns; and the text that it makes for printing is the final BRP
+// statement of the bytes read, and of an input that is too long that of any bytes so long. That the bytes read are those of standard input, and that the text arrives, no
+// contract can say: those of `libc::read` and `libc::write` speak of the count of one call alone. tests/streams tries it.
+use libc::STDERR_FILENO;
+use libc::STDOUT_FILENO;
+use setting::Setting;
+use standard_input::Ending;
+use statement_text::Per;
+ghost use lib.ListN.{length, take};
+ghost use Prim.Native.Nat.{_≤_};
+ghost use Rattle.rules.specs.Setting.{final};
+ghost use Rattle.rules.specs.Statement.{brpStatement};
+ghost use Rattle.standard_input.specs.Reading.{FullyRead, TextOf};
+ghost use Rattle.statement_text.specs.Stating.{statementRoom};
+
+// The text of an input at the start of `out`, by how its reading ended: THE FINAL BRP STATEMENT OF THE INPUT.
+fn input_text(ending: Ending, file: &[u8], out: &mut [u8]) -> usize
+    requires { ⌜ FullyRead ending (now file) ⌝ }
+    requires { ⌜ statementRoom ≤ length (now out) ⌝ }
+    ensures within { λ n. ⌜ n ≤ length (now (out .exit)) ⌝ }
+    ensures text { λ n. ⌜ TextOf (brpStatement final) ending (now (file .entry)) (take n (now (out .exit))) ⌝ }
+{
+    statement_input::input_text(ending, file, Setting::Final, Per::Brp, out)
+}
+
+// Says a failure on standard error; where that fails too, there is nowhere left to say it. A program has no exit status: a failure is told here alone, with no
+// answer or a part of one on standard output.
+fn complain(message: &[u8]) {
+    io::write_all(STDERR_FILENO, message);
+}
+
+// Prints all of a text, however many writes it takes, and says the first that fails.
+fn print(text: &[u8]) {
+    let all = io::write_all(STDOUT_FILENO, text);
+    if !all {
+        complain(b"brp: standard output cannot be written\n");
+    }
+}
+
+// An input that could be read: its BRP statement, or its refusal.
+fn print_input(ending: Ending, file: &[u8])
+    requires { ⌜ FullyRead ending (now file) ⌝ }
+{
+    let mut out = statement_input::room();
+    let n = input_text(ending, file, &mut out);
+    print(&out[0..n]);
+}
+
+fn main() {
+    let mut buffer = io::large_buffer();
+    let input = standard_input::read_month(&mut buffer);
+    let ending = input.ending;
+    match ending {
+        Ending::Failed => complain(b"brp: standard input cannot be read\n"),
+        _ => print_input(ending, standard_input::bytes_read(&buffer, input)),
+    }
+}
