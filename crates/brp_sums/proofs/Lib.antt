@@ -1,0 +1,3 @@
+pub mod Only
+pub mod Finding
+pub mod Unique
