@@ -239,14 +239,7 @@ pub fn decode(part: &[u8]) -> Record
 
 // THE RULE OF A RECORD'S FIELDS, 4, 5, 11, 12 in that order, kind by kind, for a file of so many hours and parties, at a place. The bytes of a party's GLN
 // and of its BRP's stand beside it; of another kind they are not looked at.
-pub fn fault(
-    r: Record,
-    gln: &[u8],
-    brp_gln: &[u8],
-    hours: u16,
-    parties: u8,
-    place: usize,
-) -> Answer
+pub fn fault(r: Record, gln: &[u8], brp_gln: &[u8], hours: u16, parties: u8, place: usize) -> Answer
     ensures { λ a. ⌜ FaultPromised r (now (gln .entry)) (now («brp_gln» .entry)) hours parties place a ⌝ }
 {
     match r {
@@ -287,7 +280,14 @@ pub fn read_alone(part: &[u8]) -> Read
         return Read::Refused(Refusal::FileFault, 0);
     }
     let r = decode(part);
-    let a = fault(r, gln_in(part), brp_gln_in(part), MOST_HOURS, MOST_PARTIES, 0);
+    let a = fault(
+        r,
+        gln_in(part),
+        brp_gln_in(part),
+        MOST_HOURS,
+        MOST_PARTIES,
+        0,
+    );
     match a {
         Answer::Done => Read::Given(r),
         Answer::Refused(x, place) => Read::Refused(x, place),
