@@ -80,8 +80,8 @@ nothing-written =
             before = left _ _ _ (not-zero _ (p .answer) some) (p .holds-before) i;
             whole = left _ _ _ (not-zero _ (p .answer) some) (p .holds-whole) i;
           };
-      write = λ r gln lent. wrote-nothing _ lent _;
-      write-plain = λ kind numbers gln lent. wrote-nothing _ lent _;
+      write = λ r gln brpGln lent. wrote-nothing _ lent _;
+      write-plain = λ kind numbers gln brpGln lent. wrote-nothing _ lent _;
       month-settle =
           λ setting file lent r held refuses p i.
           record {

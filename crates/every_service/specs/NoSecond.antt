@@ -74,12 +74,12 @@ pub record Records : Type 0 where
   pub gln-check : (part : List ℕ) → OneFits (Gln.CheckPromised part)
   pub gln-part-at : (file : List ℕ) (at : ℕ) → OneFits (Gln.PartAtPromised file at)
   pub body-length : (kind : ℕ) → OneFits (Read.BodyLengthPromised kind)
-  pub fault : (r : Record) (gln : List ℕ) (hours parties place : ℕ) → OneFits (Read.FaultPromised r gln hours parties place)
+  pub fault : (r : Record) (gln brpGln : List ℕ) (hours parties place : ℕ) → OneFits (Read.FaultPromised r gln brpGln hours parties place)
   pub read-alone : (part : List ℕ) → OneFits (Read.ReadAlonePromised part)
-  pub write : (r : Record) (gln lent : List ℕ) → OneFitsWith (Write.Promised r gln lent)
+  pub write : (r : Record) (gln brpGln lent : List ℕ) → OneFitsWith (Write.Promised r gln brpGln lent)
   pub write-plain :
-      (kind : ℕ) (numbers : List ℤ) (gln lent : List ℕ)
-      → OneFitsWith (Plain.Promised kind numbers gln lent)
+      (kind : ℕ) (numbers : List ℤ) (gln brpGln lent : List ℕ)
+      → OneFitsWith (Plain.Promised kind numbers gln brpGln lent)
 
 -- A WHOLE FILE under a setting: its reading, its settlement, the hours of a run, its two texts
 pub record WholeFiles : Type 0 where

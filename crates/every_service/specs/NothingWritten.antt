@@ -72,10 +72,10 @@ pub record NothingWritten : Type 0 where
       → Unwritten NotZero lent (HourForCPromised residual distributed periodised carrier price lent)
   pub invoice-for-C : (amounts lent : List ℤ) → Unwritten NotZero lent (C.InvoicePromised amounts lent)
   pub plan-for-C : (r : LongReading) (lent : PlanForC) → Unwritten NotZero lent (PlanForCPromised r lent)
-  pub write : (r : Record) (gln lent : List ℕ) → Unwritten (Refuses wroteVerdict) lent (Write.Promised r gln lent)
+  pub write : (r : Record) (gln brpGln lent : List ℕ) → Unwritten (Refuses wroteVerdict) lent (Write.Promised r gln brpGln lent)
   pub write-plain :
-      (kind : ℕ) (numbers : List ℤ) (gln lent : List ℕ)
-      → Unwritten (Refuses wroteVerdict) lent (Plain.Promised kind numbers gln lent)
+      (kind : ℕ) (numbers : List ℤ) (gln brpGln lent : List ℕ)
+      → Unwritten (Refuses wroteVerdict) lent (Plain.Promised kind numbers gln brpGln lent)
   pub month-settle :
       (setting : Setting) (file : List ℕ) (lent : Month.Outputs)
       → Unwritten (Refuses Month′.verdict) lent (λ r. Month.Kept setting file r lent)

@@ -1,7 +1,8 @@
 // Cases of one record, run by the gate (01 "The month file"): GS1's example and two GLNs of the paper, each refusal of the reader alone and of the writer,
-// and a net supply of -8,000,000,000 Wh there and back. One line for each.
+// a net supply of -8,000,000,000 Wh there and back, and a party with its BRP (02, W5). One line for each.
 use answer::Refusal;
 use gln::Gln;
+use record::Brp;
 use record::Flows;
 use record::Heading;
 use record::Over;
@@ -24,6 +25,8 @@ const REFIXED_HOUR: u64 = record::kind::REFIXED_HOUR as u64;
 const END: u64 = record::kind::END as u64;
 
 const LONG_READING: u64 = record::kind::LONG_READING as u64;
+
+const BRP_PARTY: u64 = record::kind::BRP_PARTY as u64;
 
 fn refused(x: Refusal, place: usize) {
     io::print_decimal(OUT, answer::number(x) as u64);
@@ -54,16 +57,30 @@ fn weights(over: Over) {
     }
 }
 
-// What a record is, by its kind and one of its fields.
-fn kind(r: Record) {
+// The GLNs of a party that names its BRP: both are handed back as parts of its record.
+fn responsible(brp: Brp, part: &[u8]) {
+    match brp {
+        Brp::Own => {}
+        Brp::Named => {
+            io::write_all(OUT, b" of supplier ");
+            io::write_all(OUT, record::gln_in(part));
+            io::write_all(OUT, b", BRP ");
+            io::write_all(OUT, record::brp_gln_in(part));
+        }
+    }
+}
+
+// What the record is that was read from a part, by its kind and one of its fields.
+fn kind(r: Record, part: &[u8]) {
     match r {
         Record::Heading(h) => {
             io::write_all(OUT, b"heading ");
             io::print_decimal(OUT, h.year as u64);
         }
-        Record::Party(share) => {
+        Record::Party(brp, share) => {
             io::write_all(OUT, b"party ");
             io::print_decimal(OUT, share);
+            responsible(brp, part);
         }
         Record::FixedHour(_, f) => {
             io::write_all(OUT, b"fixed ");
@@ -109,39 +126,44 @@ fn read_case(part: &[u8]) {
     io::write_all(OUT, b"read ");
     let r = record::read_alone(part);
     match r {
-        Read::Given(x) => kind(x),
+        Read::Given(x) => kind(x, part),
         Read::Refused(x, place) => refused(x, place),
     }
 }
 
-// Written into a part of 22 bytes: room for all but an hour and a reading over months.
-fn write_case(r: Record, gln: &[u8]) {
-    io::write_all(OUT, b"write ");
-    let mut part = [0u8; 22];
-    let w = record_write::write(r, gln, &mut part);
+// What the writer told, and what then stands in the part.
+fn written(w: Written, part: &[u8]) {
     match w {
         Written::Bytes(n) => {
             io::print_decimal(OUT, n as u64);
             io::write_all(OUT, b" bytes, ");
-            read_case(&part);
+            read_case(part);
         }
         Written::Refused(x, place) => refused(x, place),
     }
+}
+
+// Written into a part of 22 bytes: room for all but an hour, a reading over months and a party that names its BRP.
+fn write_case(r: Record, gln: &[u8]) {
+    io::write_all(OUT, b"write ");
+    let mut part = [0u8; 22];
+    let w = record_write::write(r, gln, b"", &mut part);
+    written(w, &part);
 }
 
 // An hour, or a reading over months, written and read back.
 fn hour_case(r: Record) {
     io::write_all(OUT, b"write ");
     let mut part = [0u8; 36];
-    let w = record_write::write(r, b"", &mut part);
-    match w {
-        Written::Bytes(n) => {
-            io::print_decimal(OUT, n as u64);
-            io::write_all(OUT, b" bytes, ");
-            read_case(&part);
-        }
-        Written::Refused(x, place) => refused(x, place),
-    }
+    let w = record_write::write(r, b"", b"", &mut part);
+    written(w, &part);
+}
+
+// A party that names its BRP, written into a part that is lent and read back.
+fn brp_case(share: u64, gln: &[u8], brp_gln: &[u8], part: &mut [u8]) {
+    io::write_all(OUT, b"write ");
+    let w = record_write::write(Record::Party(Brp::Named, share), gln, brp_gln, part);
+    written(w, part);
 }
 
 fn glns() {
@@ -187,6 +209,16 @@ fn more_reads() {
     read_case(b"\x07\xff\xff\xff\xff and what follows");
 }
 
+// 02, W5: "supplier GLN 13, BRP GLN 13, load share 8".
+fn brp_reads() {
+    read_case(b"\x1257900013305525790000432752\x00\x00\x00\x00\x00\x00\x03\xe8");
+    read_case(b"\x1257900013305525790000432752\x00\x00\x00\x00\x00\x00\x03");
+    read_case(b"\x1257900013305535790000432753\x00\x00\x00\x01\x00\x00\x00\x00");
+    read_case(b"\x1257900013305535790000432752\x00\x00\x00\x00\x00\x00\x03\xe8");
+    read_case(b"\x1257900013305525790000432753\x00\x00\x00\x00\x00\x00\x03\xe8");
+    read_case(b"\x12579000133055257900004327a2\x00\x00\x00\x00\x00\x00\x03\xe8");
+}
+
 fn flows(status: u8, net_wh: i64) -> Flows {
     Flows {
         status,
@@ -208,10 +240,10 @@ fn long_reading(before: u64, whole: u64) -> Reading {
 }
 
 fn writes() {
-    write_case(Record::Party(4000000000), b"5790000432752");
-    write_case(Record::Party(4000000001), b"5790000432753");
-    write_case(Record::Party(0), b"5790000432753");
-    write_case(Record::Party(0), b"579000043275");
+    write_case(Record::Party(Brp::Own, 4000000000), b"5790000432752");
+    write_case(Record::Party(Brp::Own, 4000000001), b"5790000432753");
+    write_case(Record::Party(Brp::Own, 0), b"5790000432753");
+    write_case(Record::Party(Brp::Own, 0), b"579000043275");
     write_case(Record::End(4294967295), b"");
     write_case(Record::FixedHour(0, flows(1, 0)), b"");
     hour_case(Record::FixedHour(744, flows(1, -8000000000)));
@@ -257,18 +289,29 @@ fn more_writes() {
     write_case(Record::Price(0, 5000001), b"");
 }
 
+// Room for exactly a party with its BRP, and for one byte less.
+fn brp_writes() {
+    let mut exact = [0u8; 35];
+    brp_case(4000000000, b"5790001330552", b"5790000432752", &mut exact);
+    let mut short = [0u8; 34];
+    brp_case(4000000000, b"5790001330552", b"5790000432752", &mut short);
+    brp_case(4000000001, b"5790001330552", b"5790000432753", &mut short);
+    brp_case(0, b"5790001330553", b"5790000432752", &mut exact);
+    brp_case(0, b"5790001330552", b"5790000432753", &mut short);
+    brp_case(0, b"5790001330552", b"579000043275", &mut exact);
+}
+
 fn plain_case(kind: u64, numbers: &[i64]) {
     io::write_all(OUT, b"plain ");
     let mut part = [0u8; 36];
-    let w = record_service::write_plain(kind, numbers, b"6291041500213", &mut part);
-    match w {
-        Written::Bytes(n) => {
-            io::print_decimal(OUT, n as u64);
-            io::write_all(OUT, b" bytes, ");
-            read_case(&part);
-        }
-        Written::Refused(x, place) => refused(x, place),
-    }
+    let w = record_service::write_plain(
+        kind,
+        numbers,
+        b"6291041500213",
+        b"5790000432752",
+        &mut part,
+    );
+    written(w, &part);
 }
 
 fn plains() {
@@ -284,13 +327,18 @@ fn plains() {
     plain_case(LONG_READING, &[63i64, 0, 1, 4294967296, 0, 0]);
     plain_case(LONG_READING, &[63i64, 0, 1, 7, -1, 0]);
     plain_case(LONG_READING, &[63i64, 0, 1, 7, 9223372036854775807, 0]);
+    plain_case(BRP_PARTY, &[1000i64]);
+    plain_case(BRP_PARTY, &[1000i64, 0]);
+    plain_case(BRP_PARTY, &[-1i64]);
 }
 
 fn main() {
     glns();
     reads();
     more_reads();
+    brp_reads();
     writes();
     more_writes();
+    brp_writes();
     plains();
 }

@@ -12,7 +12,7 @@ use lib.Dec.{eqb, leb, ltb, leb·suc-suc, eqb·zero-suc, eqb·suc-zero, eqb·suc
 use lib.IntN.{ℤ, pos, negsuc, natAbs}
 use lib.ListN.{length}
 use lib.Signed.{leZ}
-use Rattle.record.specs.Record.{recordOf}
+use Rattle.record.specs.Record.{recordOf, Glns}
 use Rattle.record_service.specs.Held.{fieldCount, signedPlace, signsFrom, fieldsHeld, listRight, heldIn, held, heldRecord}
 use Rattle.rules.specs.Accepted.{NoneRefuses}
 use Rattle.rules.specs.Flows.{Flows, flowsInRange, silentIsZero}
@@ -20,13 +20,17 @@ use Rattle.rules.specs.Gln.{validGln}
 use Rattle.rules.specs.Limits.{greatestArea, latestYear, monthsOfAYear, mostHours, mostParties, greatestShare, greatestEnergy, greatestPrice, greatestFlow, estimated}
 use Rattle.rules.specs.PlainRecord.{nth, noSign, nthNoSign, plainHeading, plainFlows, plainReading, plainRecord, standIn, fieldsHold}
 use Rattle.rules.specs.Record as R
-use Rattle.rules.specs.Record.{Field, number, signedNumber, digits, fieldsOf, hourFields, weightFields, layouts, known, alone, checks, headingInRange, hourInRange}
+use Rattle.rules.specs.Record.{Field, number, signedNumber, digits, fieldsOf, hourFields, brpFields, weightFields, partyFrom, layouts, known, alone, checks, headingInRange, hourInRange}
 use Rattle.rules.specs.Refusals.{Verdict, accepted, outOfRange, spanFault, energyTooLarge, glnFault, unless, first}
 use Rattle.rules.specs.Words.{withinℤ}
 use Rattle.rules.proofs.EachKind.{Entries, each-kind, body-lengths}
 use Rattle.rules.proofs.Refusals.{accepted-exactly, unless-exactly}
 use Rattle.rules.proofs.RoundTrip.{both-true}
 use Rattle.rules.proofs.Whole.{heading-facts, true-not-false}
+
+-- the record that a kind, its numbers and its GLNs are
+abbrev pub plainWith : Glns → ℕ → List ℤ → R.Record
+plainWith beside kind l = plainRecord kind l (beside .gln) (beside .brpGln)
 
 -- a number in a field whose greatest is `most`: as it is held there, or as it is
 unfoldable seen : Bool → ℕ → ℤ → ℕ
@@ -54,7 +58,7 @@ alike test x one = go (test (x true)) refl (test (x false)) refl
     go false e true f = ap test (one false f)
     go false e false f = e ∙ sym f
 
-module _ (l : List ℤ) (gln : List ℕ) where
+module _ (l : List ℤ) (beside : Glns) where
   abbrev at-16 : Bool → ℕ → ℕ
   at-16 s k = seen s 65535 (nth l k)
 
@@ -160,8 +164,8 @@ module _ (l : List ℤ) (gln : List ℕ) where
 
   -- THE TWO RECORDS ARE JUDGED ALIKE, and where they are accepted they are one
   record Alike (kind : ℕ) : Type 0 where
-    verdict : first (checks alone (recordOf gln (heldRecord kind l))) ≡ first (checks alone (plainRecord kind l gln))
-    same : NoneRefuses (checks alone (plainRecord kind l gln)) → recordOf gln (heldRecord kind l) ≡ plainRecord kind l gln
+    verdict : first (checks alone (recordOf beside (heldRecord kind l))) ≡ first (checks alone (plainWith beside kind l))
+    same : NoneRefuses (checks alone (plainWith beside kind l)) → recordOf beside (heldRecord kind l) ≡ plainWith beside kind l
 
   abbrev one-check : Bool → Verdict
   one-check t = first (unless t outOfRange 0 ∷ [])
@@ -174,13 +178,27 @@ module _ (l : List ℤ) (gln : List ℕ) where
         same = λ c. ap R.heading (one-heading false (unless-exactly _ _ _ .0 (c .0)));
       }
 
+  -- a party of either kind
+  abbrev party-of : R.Brp → ℕ → R.Record
+  party-of brp share = R.party (record { gln = beside .gln; brp = brp; share = share })
+
+  party-verdicts : (brp : R.Brp) → first (checks alone (party-of brp (at-64 true 0))) ≡ first (checks alone (party-of brp (at-64 false 0)))
+  unfolding checks
+  party-verdicts brp =
+      let glnsRight = unless (validGln (beside .gln)) glnFault 0 ∷ unless (validGln (R.brpGlnOf (beside .gln) brp)) glnFault 0 ∷ unless true glnFault 0 ∷ [] in
+      ap (λ (t : Bool). first (unless t outOfRange 0 ∷ glnsRight)) (alike (λ n. leb n greatestShare) (λ s. at-64 s 0) one-share)
+
+  party-same : (brp : R.Brp) → NoneRefuses (checks alone (party-of brp (at-64 false 0))) → party-of brp (at-64 true 0) ≡ party-of brp (at-64 false 0)
+  unfolding checks
+  party-same brp c = ap (party-of brp) (one-share false (unless-exactly _ _ _ .0 (c .0)))
+
   parties-alike : Alike R.partyKind
-  unfolding heldRecord plainRecord nthNoSign held seen checks
-  parties-alike =
-      record {
-        verdict = ap (λ (t : Bool). first (unless t outOfRange 0 ∷ unless (validGln gln) glnFault 0 ∷ unless true glnFault 0 ∷ [])) (alike (λ n. leb n greatestShare) (λ s. at-64 s 0) one-share);
-        same = λ c. ap (λ (n : ℕ). R.party (record { gln = gln; share = n })) (one-share false (unless-exactly _ _ _ .0 (c .0)));
-      }
+  unfolding heldRecord plainRecord partyFrom nthNoSign held seen
+  parties-alike = record { verdict = party-verdicts R.ownBrp; same = party-same R.ownBrp }
+
+  brp-parties-alike : Alike R.brpPartyKind
+  unfolding heldRecord plainRecord partyFrom nthNoSign held seen
+  brp-parties-alike = record { verdict = party-verdicts (R.namedBrp (beside .brpGln)); same = party-same (R.namedBrp (beside .brpGln)) }
 
   fixed-alike : Alike R.fixedHourKind
   unfolding heldRecord plainRecord plainFlows nthNoSign held seen checks
@@ -261,18 +279,18 @@ module _ (l : List ℤ) (gln : List ℕ) where
   unfolding layouts
   every-kind = (
     λ e. headings-alike,
-    (λ e. parties-alike, (λ e. fixed-alike, (λ e. readings-alike, (λ e. prices-alike, (λ e. refixed-alike, (ends-alike, (long-readings-alike, tt))))))),
+    (λ e. parties-alike, (λ e. fixed-alike, (λ e. readings-alike, (λ e. prices-alike, (λ e. refixed-alike, (ends-alike, (long-readings-alike, (λ e. brp-parties-alike, tt)))))))),
   )
 
   pub judged-alike : (kind : ℕ) → known kind ≡ true → fieldsHold kind l ≡ true
-      → first (checks alone (recordOf gln (heldRecord kind l))) ≡ first (checks alone (plainRecord kind l gln))
+      → first (checks alone (recordOf beside (heldRecord kind l))) ≡ first (checks alone (plainWith beside kind l))
   judged-alike kind has e = each-kind (λ (k : ℕ) (ws : List ℕ). fieldsHold k l ≡ true → Alike k) every-kind kind has e .verdict
 
   pub accepted-same : (kind : ℕ) → known kind ≡ true → fieldsHold kind l ≡ true
-      → first (checks alone (plainRecord kind l gln)) ≡ accepted
-      → recordOf gln (heldRecord kind l) ≡ plainRecord kind l gln
+      → first (checks alone (plainWith beside kind l)) ≡ accepted
+      → recordOf beside (heldRecord kind l) ≡ plainWith beside kind l
   accepted-same kind has e ok =
-      each-kind (λ (k : ℕ) (ws : List ℕ). fieldsHold k l ≡ true → Alike k) every-kind kind has e .same (accepted-exactly (checks alone (plainRecord kind l gln)) .0 ok)
+      each-kind (λ (k : ℕ) (ws : List ℕ). fieldsHold k l ≡ true → Alike k) every-kind kind has e .same (accepted-exactly (checks alone (plainWith beside kind l)) .0 ok)
 
 -- THE TESTS OF THE LIST. The rules go through a record's fields, and the code through the numbers, of which one place may be negative: so they say the same
 -- where that place is the place of the field that has a sign.
@@ -332,9 +350,9 @@ sign-at place i (z ∷ l) s zero b other =
 sign-at place i (z ∷ l) s (suc k) b other =
     sign-at place (suc i) l (both-true (eqb i place || leZ (pos 0) z) (signsFrom place (suc i) l) s .1) k (omega arith) (rw (add-suc i k, ← (suc-add i k)) at other)
 
-module _ (l : List ℤ) (gln : List ℕ) where
+module _ (l : List ℤ) (beside : Glns) where
   abbrev rulesRight : ℕ → Bool
-  rulesRight kind = standIn (fieldsOf (plainRecord kind l gln)) l && fieldsHold kind l
+  rulesRight kind = standIn (fieldsOf (plainWith beside kind l)) l && fieldsHold kind l
 
   abbrev RightAs : ℕ → Type 0
   RightAs kind = listRight kind l ≡ rulesRight kind
@@ -344,27 +362,31 @@ module _ (l : List ℤ) (gln : List ℕ) where
 
   headings-right : RightAs R.headingKind
   unfolding listRight fieldsHeld fieldCount body-lengths signedPlace plainRecord fieldsOf hourFields fieldsHold
-  headings-right = ap with-no-count (sym (stands 6 0 (fieldsOf (plainRecord R.headingKind l gln)) l (refl, (refl, (refl, (refl, (refl, (refl, tt))))))))
+  headings-right = ap with-no-count (sym (stands 6 0 (fieldsOf (plainWith beside R.headingKind l)) l (refl, (refl, (refl, (refl, (refl, (refl, tt))))))))
 
   parties-right : RightAs R.partyKind
-  unfolding listRight fieldsHeld fieldCount body-lengths signedPlace plainRecord fieldsOf hourFields fieldsHold
-  parties-right = ap with-no-count (sym (stands 6 0 (fieldsOf (plainRecord R.partyKind l gln)) l (refl, tt)))
+  unfolding listRight fieldsHeld fieldCount body-lengths signedPlace plainRecord partyFrom fieldsOf brpFields fieldsHold
+  parties-right = ap with-no-count (sym (stands 6 0 (fieldsOf (plainWith beside R.partyKind l)) l (refl, tt)))
+
+  brp-parties-right : RightAs R.brpPartyKind
+  unfolding listRight fieldsHeld fieldCount body-lengths signedPlace plainRecord partyFrom fieldsOf brpFields fieldsHold
+  brp-parties-right = ap with-no-count (sym (stands 6 0 (fieldsOf (plainWith beside R.brpPartyKind l)) l (refl, tt)))
 
   fixed-right : RightAs R.fixedHourKind
   unfolding listRight fieldsHeld fieldCount body-lengths signedPlace plainRecord fieldsOf hourFields fieldsHold
-  fixed-right = ap with-no-count (sym (stands 2 0 (fieldsOf (plainRecord R.fixedHourKind l gln)) l (refl, (refl, (refl, (refl, (refl, (refl, tt))))))))
+  fixed-right = ap with-no-count (sym (stands 2 0 (fieldsOf (plainWith beside R.fixedHourKind l)) l (refl, (refl, (refl, (refl, (refl, (refl, tt))))))))
 
   readings-right : RightAs R.readingKind
   unfolding listRight fieldsHeld fieldCount body-lengths signedPlace plainRecord plainReading fieldsOf weightFields fieldsHold
-  readings-right = ap with-no-count (sym (stands 6 0 (fieldsOf (plainRecord R.readingKind l gln)) l (refl, (refl, (refl, (refl, tt))))))
+  readings-right = ap with-no-count (sym (stands 6 0 (fieldsOf (plainWith beside R.readingKind l)) l (refl, (refl, (refl, (refl, tt))))))
 
   prices-right : RightAs R.priceKind
   unfolding listRight fieldsHeld fieldCount body-lengths signedPlace plainRecord fieldsOf hourFields fieldsHold
-  prices-right = ap with-no-count (sym (stands 1 0 (fieldsOf (plainRecord R.priceKind l gln)) l (refl, (refl, tt))))
+  prices-right = ap with-no-count (sym (stands 1 0 (fieldsOf (plainWith beside R.priceKind l)) l (refl, (refl, tt))))
 
   refixed-right : RightAs R.refixedHourKind
   unfolding listRight fieldsHeld fieldCount body-lengths signedPlace plainRecord fieldsOf hourFields fieldsHold
-  refixed-right = ap with-no-count (sym (stands 2 0 (fieldsOf (plainRecord R.refixedHourKind l gln)) l (refl, (refl, (refl, (refl, (refl, (refl, tt))))))))
+  refixed-right = ap with-no-count (sym (stands 2 0 (fieldsOf (plainWith beside R.refixedHourKind l)) l (refl, (refl, (refl, (refl, (refl, (refl, tt))))))))
 
   ends-right : RightAs R.endKind
   unfolding listRight fieldsHeld fieldCount body-lengths signedPlace plainRecord fieldsOf fieldsHold
@@ -373,7 +395,7 @@ module _ (l : List ℤ) (gln : List ℕ) where
       ∙ count-right l (nthNoSign l 0)
 
   abbrev long-fields : List Field
-  long-fields = fieldsOf (plainRecord R.longReadingKind l gln)
+  long-fields = fieldsOf (plainWith beside R.longReadingKind l)
 
   long-readings-right : RightAs R.longReadingKind
   unfolding listRight fieldsHeld fieldCount body-lengths signedPlace plainRecord plainReading nthNoSign fieldsOf weightFields fieldsHold
@@ -394,7 +416,7 @@ module _ (l : List ℤ) (gln : List ℕ) where
   unfolding layouts
   every-right = (
     headings-right,
-    (parties-right, (fixed-right, (readings-right, (prices-right, (refixed-right, (ends-right, (long-readings-right, tt))))))),
+    (parties-right, (fixed-right, (readings-right, (prices-right, (refixed-right, (ends-right, (long-readings-right, (brp-parties-right, tt)))))))),
   )
 
   pub right-as-the-rules : (kind : ℕ) → known kind ≡ true → RightAs kind

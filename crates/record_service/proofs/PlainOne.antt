@@ -8,12 +8,12 @@ use borrow.Author.Tests.{le-leb, lt-leb, eq-eqb, ne-eqb, not-true, not-false, eq
 use lib.Dec.{eqb, leb}
 use lib.IntN.{ℤ, natAbs}
 use lib.ListN.{length}
-use Rattle.record.specs.Record.{recordOf}
+use Rattle.record.specs.Record.{recordOf, Glns}
 use Rattle.record_service.specs.Held.{fieldCount, signedPlace, signsFrom, fieldsHeld, listRight, heldRecord}
-use Rattle.record_service.proofs.Alike.{judged-alike, accepted-same, right-as-the-rules}
+use Rattle.record_service.proofs.Alike.{plainWith, judged-alike, accepted-same, right-as-the-rules}
 use Rattle.record_write.specs.Writing.{roomFor, WrittenUnder}
 use Rattle.record_write.proofs.WriteOne.{verdict-is}
-use Rattle.rules.specs.PlainRecord.{nth, plainRecord, standIn, fieldsHold, plainVerdict}
+use Rattle.rules.specs.PlainRecord.{nth, standIn, fieldsHold, plainVerdict}
 use Rattle.rules.specs.Record.{Record, endKind, longReadingKind, bodyLength, known, fieldsOf, alone, checks, writeVerdict}
 use Rattle.rules.specs.Refusals.{unknownKind, outOfRange, Verdict, accepted, refused, Answer, refusal, unless, andThen, first, answer, afterwards}
 use Rattle.rules.proofs.EachKind.{kind-is-a-byte}
@@ -82,16 +82,19 @@ unfolding known
 has-body kind h = le-leb 1 (bodyLength kind) h
 
 -- THE WHOLE VERDICT
-module _ (kind : ℕ) (numbers : List ℤ) (gln out : List ℕ) where
+module _ (kind : ℕ) (numbers : List ℤ) (beside : Glns) (out : List ℕ) where
   abbrev record-held : Record
-  record-held = recordOf gln (heldRecord kind numbers)
+  record-held = recordOf beside (heldRecord kind numbers)
 
   abbrev record-is : Record
-  record-is = plainRecord kind numbers gln
+  record-is = plainWith beside kind numbers
+
+  abbrev plain-verdict : Verdict
+  plain-verdict = plainVerdict kind numbers (beside .gln) (beside .brpGln) (length out)
 
   -- what is promised, of an answer in the words of the rules
   abbrev Written-so : Answer ℕ → List ℕ → Type 0
-  Written-so a after = WrittenUnder record-is out (plainVerdict kind numbers gln (length out)) a after
+  Written-so a after = WrittenUnder record-is out plain-verdict a after
 
   pub unknown : known kind ≡ false → {a : Answer ℕ} → a ≡ refusal unknownKind 0 → Written-so a out
   unfolding plainVerdict first andThen unless answer afterwards
@@ -99,14 +102,14 @@ module _ (kind : ℕ) (numbers : List ℤ) (gln out : List ℕ) where
 
   module _ (has : known kind ≡ true) {b : Bool} (list : b ≡ listRight kind numbers) where
     as-ruled : standIn (fieldsOf record-is) numbers && fieldsHold kind numbers ≡ b
-    as-ruled = sym (list ∙ right-as-the-rules numbers gln kind has)
+    as-ruled = sym (list ∙ right-as-the-rules numbers beside kind has)
 
     pub wrong-list : not b ≡ true → {a : Answer ℕ} → a ≡ refusal outOfRange 0 → Written-so a out
     unfolding plainVerdict first andThen unless answer afterwards
     wrong-list e is = (rw (has, as-ruled, not-true b e) is, rw (has, as-ruled, not-true b e) refl)
 
     module _ (e : not b ≡ false) where
-      passed : plainVerdict kind numbers gln (length out) ≡ writeVerdict record-is (length out)
+      passed : plain-verdict ≡ writeVerdict record-is (length out)
       unfolding plainVerdict first andThen unless
       passed = rw (has, as-ruled, not-false b e) (then-accepted (writeVerdict record-is (length out)))
 
@@ -119,9 +122,9 @@ module _ (kind : ℕ) (numbers : List ℤ) (gln out : List ℕ) where
           → WrittenUnder record-is out (writeVerdict record-is (length out)) a after
       unfolding andThen answer afterwards
       of-the-record accepted is {a} {after} h =
-          subst (λ (r : Record). WrittenUnder r out (writeVerdict r (length out)) a after) (accepted-same numbers gln kind has held-count is) h
+          subst (λ (r : Record). WrittenUnder r out (writeVerdict r (length out)) a after) (accepted-same numbers beside kind has held-count is) h
       of-the-record (refused r place) is h =
-          let held-refused = verdict-is record-held out ∙ ap (λ (v : Verdict). andThen v (roomFor record-held out)) (judged-alike numbers gln kind has held-count ∙ is) in
+          let held-refused = verdict-is record-held out ∙ ap (λ (v : Verdict). andThen v (roomFor record-held out)) (judged-alike numbers beside kind has held-count ∙ is) in
           let is-refused = verdict-is record-is out ∙ ap (λ (v : Verdict). andThen v (roomFor record-is out)) is in
           rw is-refused (rw held-refused at h)
 

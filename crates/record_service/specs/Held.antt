@@ -7,6 +7,7 @@ use lib.Dec.{eqb, leb}
 use lib.IntN.{ℤ, pos, negsuc, natAbs}
 use lib.ListN.{length}
 use lib.Signed.{leZ}
+use Rattle.record.specs.declared.Brp.the-variants.{Own, Named}
 use Rattle.record.specs.declared.Heading as CHeading
 use Rattle.record.specs.declared.Flows as CFlows
 use Rattle.record.specs.declared.Over as COver
@@ -15,11 +16,11 @@ use Rattle.record.specs.declared.Reading as CReading
 use Rattle.record.specs.declared.Record.{Record}
 use Rattle.record.specs.declared.Record.the-variants.{Heading, Party, FixedHour, Reading, Price, RefixedHour, End}
 use Rattle.rules.specs.PlainRecord.{nth}
-use Rattle.rules.specs.Record.{headingKind, partyKind, fixedHourKind, readingKind, priceKind, refixedHourKind, endKind, longReadingKind, fieldWidths}
+use Rattle.rules.specs.Record.{headingKind, partyKind, fixedHourKind, readingKind, priceKind, refixedHourKind, endKind, longReadingKind, brpPartyKind, fieldWidths}
 
--- how many numbers a kind has: one for each field, but none for a party's GLN, which stands beside them
+-- how many numbers a kind has: one for each field, but none for a party's GLN or its BRP's, which stand beside them
 unfoldable pub fieldCount : ℕ → ℕ
-fieldCount kind = cond (eqb kind partyKind) 1 (length (fieldWidths kind))
+fieldCount kind = cond (eqb kind partyKind || eqb kind brpPartyKind) 1 (length (fieldWidths kind))
 
 -- the place of the number that may be negative, an hour's net supply or the price; past the last place of the longest list where there is none
 unfoldable pub signedPlace : ℕ → ℕ
@@ -73,9 +74,10 @@ heldWeights l = ManyMonths (held 18446744073709551615 l 4) (held 184467440737095
 unfoldable pub heldRecord : ℕ → List ℤ → Record
 heldRecord kind l =
     cond (eqb kind headingKind) (Heading (heldHeading l))
-    (cond (eqb kind partyKind) (Party (held 18446744073709551615 l 0))
+    (cond (eqb kind partyKind) (Party Own (held 18446744073709551615 l 0))
     (cond (eqb kind fixedHourKind) (FixedHour (held 65535 l 0) (heldFlows l))
     (cond (eqb kind readingKind) (Reading (heldReading l ThisMonth))
     (cond (eqb kind priceKind) (Price (held 65535 l 0) (nth l 1))
     (cond (eqb kind refixedHourKind) (RefixedHour (held 65535 l 0) (heldFlows l))
-    (cond (eqb kind longReadingKind) (Reading (heldReading l (heldWeights l))) (End (held 4294967295 l 0))))))))
+    (cond (eqb kind longReadingKind) (Reading (heldReading l (heldWeights l)))
+    (cond (eqb kind brpPartyKind) (Party Named (held 18446744073709551615 l 0)) (End (held 4294967295 l 0)))))))))

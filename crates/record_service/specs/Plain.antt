@@ -9,6 +9,6 @@ use Rattle.rules.specs.PlainRecord.{plainRecord, plainVerdict}
 
 -- THE PROMISE: the answer is the number of bytes of the record that the numbers are, or the refusal; the lent part then holds these bytes at its start and
 -- nothing further on is touched, or refused it holds what it held
-abbrev pub Promised : ℕ → List ℤ → List ℕ → List ℕ → Written → List ℕ → Type 0
-Promised kind numbers gln lent w held =
-    WrittenUnder (plainRecord kind numbers gln) lent (plainVerdict kind numbers gln (length lent)) (wrote w) held
+abbrev pub Promised : ℕ → List ℤ → List ℕ → List ℕ → List ℕ → Written → List ℕ → Type 0
+Promised kind numbers gln brpGln lent w held =
+    WrittenUnder (plainRecord kind numbers gln brpGln) lent (plainVerdict kind numbers gln brpGln (length lent)) (wrote w) held

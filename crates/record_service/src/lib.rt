@@ -1,5 +1,6 @@
 // The record writer with the kind as a number and the fields as a list of numbers (01 "The month file", "The record writer"), for tests: `record_cases` calls it.
 use answer::Refusal;
+use record::Brp;
 use record::Flows;
 use record::Heading;
 use record::Over;
@@ -21,7 +22,7 @@ ghost use Rattle.rules.specs.Record.{known};
 // Where no number of a kind may be negative: past the last place of the longest list.
 const NOWHERE: usize = 6;
 
-// How many numbers a kind has: one for each field, but none for a party's GLN, which stands beside them.
+// How many numbers a kind has: one for each field, but none for a party's GLN or its BRP's, which stand beside them.
 fn field_count(sort: u8) -> usize
     requires { ⌜ known sort ≡ true ⌝ }
     ensures { λ n. ⌜ n ≡ fieldCount sort ⌝ }
@@ -34,6 +35,7 @@ fn field_count(sort: u8) -> usize
         kind::PRICE => 2,
         kind::REFIXED_HOUR => 6,
         kind::LONG_READING => 6,
+        kind::BRP_PARTY => 1,
         _ => 1,
     }
 }
@@ -176,12 +178,13 @@ fn record_of(sort: u8, numbers: &[i64]) -> Record
 {
     match sort {
         kind::HEADING => Record::Heading(heading_of(numbers)),
-        kind::PARTY => Record::Party(u64_of(numbers, 0)),
+        kind::PARTY => Record::Party(Brp::Own, u64_of(numbers, 0)),
         kind::FIXED_HOUR => Record::FixedHour(u16_of(numbers, 0), flows_of(numbers)),
         kind::READING => Record::Reading(reading_of(numbers, Over::ThisMonth)),
         kind::PRICE => Record::Price(u16_of(numbers, 0), numbers[1]),
         kind::REFIXED_HOUR => Record::RefixedHour(u16_of(numbers, 0), flows_of(numbers)),
         kind::LONG_READING => Record::Reading(reading_of(numbers, weights_of(numbers))),
+        kind::BRP_PARTY => Record::Party(Brp::Named, u64_of(numbers, 0)),
         _ => Record::End(u32_of(numbers, 0)),
     }
 }
@@ -221,8 +224,14 @@ fn list_right(sort: u8, numbers: &[i64]) -> bool
 
 // The record writer on plain numbers: 2 first; then 4 where the list has another length than
 // the kind has fields, a number is negative in an unsigned field, or an end count or a weight is beyond its bytes; then as the writer.
-pub fn write_plain(kind: u64, numbers: &[i64], gln: &[u8], out: &mut [u8]) -> Written
-    ensures { λ w. ⌜ Promised kind (now (numbers .entry)) (now (gln .entry)) (now (out .entry)) w (now (out .exit)) ⌝ }
+pub fn write_plain(
+    kind: u64,
+    numbers: &[i64],
+    gln: &[u8],
+    brp_gln: &[u8],
+    out: &mut [u8],
+) -> Written
+    ensures { λ w. ⌜ Promised kind (now (numbers .entry)) (now (gln .entry)) (now («brp_gln» .entry)) (now (out .entry)) w (now (out .exit)) ⌝ }
 {
     if 255 < kind {
         return Written::Refused(Refusal::UnknownKind, 0);
@@ -235,5 +244,5 @@ pub fn write_plain(kind: u64, numbers: &[i64], gln: &[u8], out: &mut [u8]) -> Wr
         return Written::Refused(Refusal::OutOfRange, 0);
     }
     let r = record_of(sort, numbers);
-    record_write::write(r, gln, out)
+    record_write::write(r, gln, brp_gln, out)
 }

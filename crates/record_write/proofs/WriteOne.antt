@@ -15,10 +15,13 @@ use Rattle.answer.specs.Said.{named, said}
 use Rattle.answer.specs.declared.Answer as A
 use Rattle.answer.specs.declared.Answer.the-variants.{Done, Refused}
 use Rattle.answer.specs.declared.Refusal as A′
-use Rattle.record.specs.Record.{recordOf, faultOf}
+use Rattle.record.specs.Record.{recordOf, Glns, brpOf, kindOfBrp, faultOf}
 use Rattle.record_write.specs.Writing.{kindOf, Writable, roomFor, WrittenUnder}
+use Rattle.record.specs.declared.Brp as CBrp
+use Rattle.record.specs.declared.Brp.the-variants.{Own, Named}
 use Rattle.record.specs.declared.Record as C
 use Rattle.record.specs.declared.Record.the-variants.{Heading, Party, FixedHour, Reading, Price, RefixedHour, End}
+use Rattle.rules.specs.Accepted.{NoneRefuses}
 use Rattle.rules.specs.Limits.{mostHours, mostParties, greatestPrice, glnDigits}
 use Rattle.rules.specs.Record as RRecord
 use Rattle.rules.specs.Record.{Record, bodyLength, recordBytes, alone, checks, writeVerdict, written}
@@ -28,33 +31,42 @@ use Rattle.rules.proofs.Refusals.{first-append}
 use Rattle.rules.proofs.RoundTrip as R
 
 -- the code's kind is the rules'
-kind-same : (gln : List ℕ) (r : C.Record) → RRecord.kindOf (recordOf gln r) ≡ kindOf r
-kind-same gln (Heading h) = refl
-kind-same gln (Party share) = refl
-kind-same gln (FixedHour hour f) = refl
-kind-same gln (Reading r) = refl
-kind-same gln (Price hour p) = refl
-kind-same gln (RefixedHour hour f) = refl
-kind-same gln (End count) = refl
+brp-kind-same : (brp : CBrp.Brp) (brpGln : List ℕ) → RRecord.partyKindOf (brpOf brp brpGln) ≡ kindOfBrp brp
+brp-kind-same Own brpGln = refl
+brp-kind-same Named brpGln = refl
 
-module _ (gln : List ℕ) (r : C.Record) (e : first (checks alone (recordOf gln r)) ≡ accepted) where
-  pub size-is : length (recordBytes (recordOf gln r)) ≡ 1 + bodyLength (kindOf r)
-  size-is = R.record-length (recordOf gln r) e ∙ ap (λ (k : ℕ). 1 + bodyLength k) (kind-same gln r)
+kind-same : (beside : Glns) (r : C.Record) → RRecord.kindOf (recordOf beside r) ≡ kindOf r
+kind-same beside (Heading h) = refl
+kind-same beside (Party brp share) = brp-kind-same brp (beside .brpGln)
+kind-same beside (FixedHour hour f) = refl
+kind-same beside (Reading r) = refl
+kind-same beside (Price hour p) = refl
+kind-same beside (RefixedHour hour f) = refl
+kind-same beside (End count) = refl
+
+module _ (beside : Glns) (r : C.Record) (e : first (checks alone (recordOf beside r)) ≡ accepted) where
+  pub size-is : length (recordBytes (recordOf beside r)) ≡ 1 + bodyLength (kindOf r)
+  size-is = R.record-length (recordOf beside r) e ∙ ap (λ (k : ℕ). 1 + bodyLength k) (kind-same beside r)
 
 -- what writing asks of the part and of the fields, by kind
-module _ {gln : List ℕ} {r : C.Record} {out : List ℕ} (w : Writable gln r out) where
+module _ {beside : Glns} {r : C.Record} {out : List ℕ} (w : Writable beside r out) where
   pub room-of : (k : ℕ) → kindOf r ≡ k → 1 + bodyLength k ≤ length out
-  room-of k e = let s : 1 + bodyLength (kindOf r) ≤ length out = omega (arith, size-is gln r (w .sound), w .room) in rw e at s
+  room-of k e = let s : 1 + bodyLength (kindOf r) ≤ length out = omega (arith, size-is beside r (w .sound), w .room) in rw e at s
 
-  pub gln-whole : {share : ℕ} → r ≡ Party share → length gln ≡ glnDigits
-  gln-whole {share} e =
-      let sound : first (checks alone (recordOf gln (Party share))) ≡ accepted = rw e at (w .sound) in
-      R.valid-length gln (R.valid-gln gln share (R.none-refuses (recordOf gln (Party share)) sound))
+  module _ {brp : CBrp.Brp} {share : ℕ} (e : r ≡ Party brp share) where
+    none-refuses : NoneRefuses (checks alone (recordOf beside (Party brp share)))
+    none-refuses = R.none-refuses (recordOf beside (Party brp share)) (rw e at (w .sound))
+
+    pub gln-whole : length (beside .gln) ≡ glnDigits
+    gln-whole = R.valid-length (beside .gln) (R.valid-gln _ none-refuses)
+
+    pub brp-gln-whole : brp ≡ Named → length (beside .brpGln) ≡ glnDigits
+    brp-gln-whole named = R.valid-length (beside .brpGln) (rw named at (R.valid-brp-gln _ none-refuses))
 
   pub price-small : {hour : ℕ} {p : ℤ} → r ≡ Price hour p → mag p ≤ 4294967295
   price-small {hour} {p} e =
-      let sound : first (checks alone (recordOf gln (Price hour p))) ≡ accepted = rw e at (w .sound) in
-      let range = R.price-range hour p (R.none-refuses (recordOf gln (Price hour p)) sound) in
+      let sound : first (checks alone (recordOf beside (Price hour p))) ≡ accepted = rw e at (w .sound) in
+      let range = R.price-range hour p (R.none-refuses (recordOf beside (Price hour p)) sound) in
       let small : mag p ≤ greatestPrice = R.price-size p (R.both-true (ltb hour mostHours) (withinℤ greatestPrice p) range .1) in
       omega arith
 
@@ -64,19 +76,19 @@ set-at-start bytes out h =
     sets-eq bytes out 0 (rw (zero-add (length bytes)) h) ∙ ap (λ (n : ℕ). bytes ++ drop n out) (zero-add (length bytes))
 
 -- 16, or the bytes
-module _ (gln : List ℕ) (r : C.Record) (out : List ℕ) (e : first (checks alone (recordOf gln r)) ≡ accepted) where
-  pub too-short : length out < 1 + bodyLength (kindOf r) → WrittenUnder (recordOf gln r) out (roomFor (recordOf gln r) out) (refusal wrongLength 0) out
+module _ (beside : Glns) (r : C.Record) (out : List ℕ) (e : first (checks alone (recordOf beside r)) ≡ accepted) where
+  pub too-short : length out < 1 + bodyLength (kindOf r) → WrittenUnder (recordOf beside r) out (roomFor (recordOf beside r) out) (refusal wrongLength 0) out
   unfolding roomFor unless answer afterwards
   too-short h =
-      rw (lt-leb (length (recordBytes (recordOf gln r))) (length out) (omega (arith, size-is gln r e))) (refl, refl)
+      rw (lt-leb (length (recordBytes (recordOf beside r))) (length out) (omega (arith, size-is beside r e))) (refl, refl)
 
-  pub has-room : {n : ℕ} → n ≡ 1 + bodyLength (kindOf r) → n ≤ length out → {after : List ℕ} → after ≡ sets out 0 (recordBytes (recordOf gln r))
-      → WrittenUnder (recordOf gln r) out (roomFor (recordOf gln r) out) (given n) after
+  pub has-room : {n : ℕ} → n ≡ 1 + bodyLength (kindOf r) → n ≤ length out → {after : List ℕ} → after ≡ sets out 0 (recordBytes (recordOf beside r))
+      → WrittenUnder (recordOf beside r) out (roomFor (recordOf beside r) out) (given n) after
   unfolding roomFor unless answer afterwards written
   has-room i h s =
-      let room : length (recordBytes (recordOf gln r)) ≤ length out = omega (arith, size-is gln r e) in
-      rw (le-leb (length (recordBytes (recordOf gln r))) (length out) room)
-      (ap given (i ∙ sym (size-is gln r e)), s ∙ set-at-start (recordBytes (recordOf gln r)) out room)
+      let room : length (recordBytes (recordOf beside r)) ≤ length out = omega (arith, size-is beside r e) in
+      rw (le-leb (length (recordBytes (recordOf beside r))) (length out) room)
+      (ap given (i ∙ sym (size-is beside r e)), s ∙ set-at-start (recordBytes (recordOf beside r)) out room)
 
 -- 4, 5, 11, 12, then 16
 then-room : (v : Verdict) → andThen v accepted ≡ v
@@ -90,23 +102,23 @@ verdict-is r out =
     first-append (checks alone r) (unless (leb (length (recordBytes r)) (length out)) wrongLength 0 ∷ [])
     ∙ ap (andThen (first (checks alone r))) (then-room (unless (leb (length (recordBytes r)) (length out)) wrongLength 0))
 
-module _ (gln : List ℕ) (r : C.Record) (out : List ℕ) (a : A.Answer) (fault : said a ≡ faultOf mostHours mostParties gln r 0) where
-  checked : said a ≡ first (checks alone (recordOf gln r))
+module _ (beside : Glns) (r : C.Record) (out : List ℕ) (a : A.Answer) (fault : said a ≡ faultOf mostHours mostParties beside r 0) where
+  checked : said a ≡ first (checks alone (recordOf beside r))
   unfolding faultOf
   checked = fault
 
-  pub no-fault : a ≡ Done → first (checks alone (recordOf gln r)) ≡ accepted
+  pub no-fault : a ≡ Done → first (checks alone (recordOf beside r)) ≡ accepted
   no-fault e = sym checked ∙ ap said e
 
-  verdict-by : writeVerdict (recordOf gln r) (length out) ≡ andThen (said a) (roomFor (recordOf gln r) out)
-  verdict-by = verdict-is (recordOf gln r) out ∙ ap (λ (v : Verdict). andThen v (roomFor (recordOf gln r) out)) (sym checked)
+  verdict-by : writeVerdict (recordOf beside r) (length out) ≡ andThen (said a) (roomFor (recordOf beside r) out)
+  verdict-by = verdict-is (recordOf beside r) out ∙ ap (λ (v : Verdict). andThen v (roomFor (recordOf beside r) out)) (sym checked)
 
-  pub verdict-of-room : a ≡ Done → {w : Answer ℕ} {after : List ℕ} → WrittenUnder (recordOf gln r) out (roomFor (recordOf gln r) out) w after
-      → WrittenUnder (recordOf gln r) out (writeVerdict (recordOf gln r) (length out)) w after
+  pub verdict-of-room : a ≡ Done → {w : Answer ℕ} {after : List ℕ} → WrittenUnder (recordOf beside r) out (roomFor (recordOf beside r) out) w after
+      → WrittenUnder (recordOf beside r) out (writeVerdict (recordOf beside r) (length out)) w after
   unfolding andThen
   verdict-of-room e h = rw (verdict-by, e) h
 
   pub verdict-of-fault : {x : A′.Refusal} {place : ℕ} → a ≡ Refused x place
-      → WrittenUnder (recordOf gln r) out (writeVerdict (recordOf gln r) (length out)) (refusal (named x) place) out
+      → WrittenUnder (recordOf beside r) out (writeVerdict (recordOf beside r) (length out)) (refusal (named x) place) out
   unfolding andThen answer afterwards
   verdict-of-fault e = rw (verdict-by, e) (refl, refl)

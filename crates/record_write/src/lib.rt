@@ -4,6 +4,7 @@ mod fields;
 
 use answer::Answer;
 use answer::Refusal;
+use record::Brp;
 use record::Flows;
 use record::Heading;
 use record::MOST_HOURS;
@@ -20,10 +21,10 @@ ghost use Prim.Native.Nat.{_+_, _≤_};
 ghost use lib.ListN.{length};
 ghost use lib.Seq.{sets};
 ghost use lib.Signed.{mag};
-ghost use Rattle.record.specs.Record.{recordOf, headingOf, flowsOf, overOf, readingOf};
-ghost use Rattle.record_write.specs.Writing.{wrote, kindOf, hourBytes, readingOver, Writable, roomFor, WrittenUnder, Promised};
+ghost use Rattle.record.specs.Record.{recordOf, headingOf, flowsOf, overOf, readingOf, glns};
+ghost use Rattle.record_write.specs.Writing.{kindOf, hourBytes, partyWith, readingOver, Writable, RoomPromised, Promised};
 ghost use Rattle.rules.specs.Limits.{glnDigits};
-ghost use Rattle.rules.specs.Record.{heading, thisMonth, manyMonths, reading, price, end, bodyLength, readingKindOf, recordBytes, alone, checks};
+ghost use Rattle.rules.specs.Record.{heading, ownBrp, namedBrp, party, thisMonth, manyMonths, reading, price, end, bodyLength, readingKindOf, recordBytes, alone, checks};
 ghost use Rattle.rules.specs.Refusals.{accepted, first};
 
 // The kinds as the numbers that are written.
@@ -38,6 +39,8 @@ const PRICE: u64 = kind::PRICE as u64;
 const END: u64 = kind::END as u64;
 
 const LONG_READING: u64 = kind::LONG_READING as u64;
+
+const BRP_PARTY: u64 = kind::BRP_PARTY as u64;
 
 // What writing one record gives: the number of bytes, or the refusal.
 pub enum Written {
@@ -62,7 +65,7 @@ fn kind_of(r: Record) -> u8
 {
     match r {
         Record::Heading(_) => kind::HEADING,
-        Record::Party(_) => kind::PARTY,
+        Record::Party(brp, _) => record::party_kind(brp),
         Record::FixedHour(_, _) => kind::FIXED_HOUR,
         Record::Reading(x) => reading_kind(x),
         Record::Price(_, _) => kind::PRICE,
@@ -89,13 +92,36 @@ fn put_heading(h: Heading, out: &mut [u8])
     fields::put_all(out, &widths, &values);
 }
 
+// A party that is its own BRP.
 fn put_party(gln: &[u8], share: u64, out: &mut [u8])
     requires { ⌜ (length (now gln) ≡ glnDigits) × (22 ≤ length (now out)) ⌝ }
-    ensures { λ r. ⌜ now (out .exit) ≡ sets (now (out .entry)) 0 (recordBytes (recordOf (now (gln .entry)) (Record.Party share))) ⌝ }
+    ensures { λ r. ⌜ now (out .exit) ≡ sets (now (out .entry)) 0 (recordBytes (party (partyWith (now (gln .entry)) ownBrp share))) ⌝ }
 {
     fields::put_number(out, 0, 1, PARTY);
     fields::put_bytes(out, 1, gln);
     fields::put_number(out, 14, 8, share);
+}
+
+// A party that names its BRP: "supplier GLN 13, BRP GLN 13, load share 8".
+fn put_brp_party(gln: &[u8], brp_gln: &[u8], share: u64, out: &mut [u8])
+    requires { ⌜ (length (now gln) ≡ glnDigits) × (length (now «brp_gln») ≡ glnDigits) × (35 ≤ length (now out)) ⌝ }
+    ensures { λ r. ⌜ now (out .exit) ≡ sets (now (out .entry)) 0 (recordBytes (party (partyWith (now (gln .entry)) (namedBrp (now («brp_gln» .entry))) share))) ⌝ }
+{
+    fields::put_number(out, 0, 1, BRP_PARTY);
+    fields::put_bytes(out, 1, gln);
+    fields::put_bytes(out, 14, brp_gln);
+    fields::put_number(out, 27, 8, share);
+}
+
+// A party of either kind.
+fn put_party_record(brp: Brp, gln: &[u8], brp_gln: &[u8], share: u64, out: &mut [u8])
+    requires { ⌜ Writable (glns (now gln) (now «brp_gln»)) (Record.Party brp share) (now out) ⌝ }
+    ensures { λ r. ⌜ now (out .exit) ≡ sets (now (out .entry)) 0 (recordBytes (recordOf (glns (now (gln .entry)) (now («brp_gln» .entry))) (Record.Party brp share))) ⌝ }
+{
+    match brp {
+        Brp::Own => put_party(gln, share, out),
+        Brp::Named => put_brp_party(gln, brp_gln, share, out),
+    }
 }
 
 fn put_hour(sort: u8, hour: u16, f: Flows, out: &mut [u8])
@@ -178,13 +204,13 @@ fn put_end(count: u32, out: &mut [u8])
 }
 
 // A record that has no fault, at the start of a part that has room for it.
-fn encode(r: Record, gln: &[u8], out: &mut [u8])
-    requires { ⌜ Writable (now gln) r (now out) ⌝ }
-    ensures { λ u. ⌜ now (out .exit) ≡ sets (now (out .entry)) 0 (recordBytes (recordOf (now (gln .entry)) r)) ⌝ }
+fn encode(r: Record, gln: &[u8], brp_gln: &[u8], out: &mut [u8])
+    requires { ⌜ Writable (glns (now gln) (now «brp_gln»)) r (now out) ⌝ }
+    ensures { λ u. ⌜ now (out .exit) ≡ sets (now (out .entry)) 0 (recordBytes (recordOf (glns (now (gln .entry)) (now («brp_gln» .entry))) r)) ⌝ }
 {
     match r {
         Record::Heading(h) => put_heading(h, out),
-        Record::Party(share) => put_party(gln, share, out),
+        Record::Party(brp, share) => put_party_record(brp, gln, brp_gln, share, out),
         Record::FixedHour(hour, f) => put_hour(kind::FIXED_HOUR, hour, f, out),
         Record::Reading(x) => put_reading(x, out),
         Record::Price(hour, price_ore) => put_price(hour, price_ore, out),
@@ -194,25 +220,26 @@ fn encode(r: Record, gln: &[u8], out: &mut [u8])
 }
 
 // 16, "record writer: too short", of a record that has no fault; else "kind and body at its start, nothing further on touched, and the number of bytes".
-fn put_record(r: Record, gln: &[u8], out: &mut [u8]) -> Written
-    requires { ⌜ first (checks alone (recordOf (now gln) r)) ≡ accepted ⌝ }
-    ensures { λ w. ⌜ WrittenUnder (recordOf (now (gln .entry)) r) (now (out .entry)) (roomFor (recordOf (now (gln .entry)) r) (now (out .entry))) (wrote w) (now (out .exit)) ⌝ }
+fn put_record(r: Record, gln: &[u8], brp_gln: &[u8], out: &mut [u8]) -> Written
+    requires { ⌜ first (checks alone (recordOf (glns (now gln) (now «brp_gln»)) r)) ≡ accepted ⌝ }
+    ensures { λ w. ⌜ RoomPromised r (now (gln .entry)) (now («brp_gln» .entry)) (now (out .entry)) w (now (out .exit)) ⌝ }
 {
     let n = 1 + record::body_length(kind_of(r));
     if out.len() < n {
         return Written::Refused(Refusal::WrongLength, 0);
     }
-    encode(r, gln, out);
+    encode(r, gln, brp_gln, out);
     Written::Bytes(n)
 }
 
-// "The record writer takes one record's fields and a lent part": 4, 5, 11, 12, then 16.
-pub fn write(r: Record, gln: &[u8], out: &mut [u8]) -> Written
-    ensures { λ w. ⌜ Promised r (now (gln .entry)) (now (out .entry)) w (now (out .exit)) ⌝ }
+// "The record writer takes one record's fields and a lent part": 4, 5, 11, 12, then 16. The bytes of a party's GLN and of its BRP's stand beside it; of another
+// kind they are not looked at.
+pub fn write(r: Record, gln: &[u8], brp_gln: &[u8], out: &mut [u8]) -> Written
+    ensures { λ w. ⌜ Promised r (now (gln .entry)) (now («brp_gln» .entry)) (now (out .entry)) w (now (out .exit)) ⌝ }
 {
-    let a = record::fault(r, gln, MOST_HOURS, MOST_PARTIES, 0);
+    let a = record::fault(r, gln, brp_gln, MOST_HOURS, MOST_PARTIES, 0);
     match a {
-        Answer::Done => put_record(r, gln, out),
+        Answer::Done => put_record(r, gln, brp_gln, out),
         Answer::Refused(x, place) => Written::Refused(x, place),
     }
 }

@@ -34,8 +34,12 @@ returns-7 c = rw (c .match .keys7)
 
 returns-8 : tie.Need-returns-8
 unfolding fieldCount body-lengths
-returns-8 c = rw (last-kind _ (c .before .pre) (c .match .rest))
+returns-8 c = rw (c .match .keys8)
+
+returns-9 : tie.Need-returns-9
+unfolding fieldCount body-lengths
+returns-9 c = rw (last-kind _ (c .before .pre) (c .match .rest))
 
 pub field-count-spec : {M : Type 1} → statement M
 field-count-spec =
-    tie.close (tie.spec returns returns-2 returns-3 returns-4 returns-5 returns-6 returns-7 returns-8)
+    tie.close (tie.spec returns returns-2 returns-3 returns-4 returns-5 returns-6 returns-7 returns-8 returns-9)

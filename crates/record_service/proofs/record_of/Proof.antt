@@ -5,6 +5,7 @@ use lib.ListN.{getD}
 use mir.Facts.{toZ-ofZ}
 use mir.Syntax.{w64}
 use mir.Val.{SFits}
+use Rattle.record.specs.declared.Brp.the-variants.{Own, Named}
 use Rattle.record.specs.declared.Record.the-variants.{Heading, Party, FixedHour, Reading, RefixedHour, End}
 use Rattle.rules.proofs.EachKind.{body-lengths, last-kind}
 use Rattle.record_service.specs.Held.{fieldCount, heldReading, heldRecord}
@@ -37,9 +38,9 @@ u16-of-requires-2 : tie.Need-u16-of-requires-2
 unfolding fieldCount body-lengths
 u16-of-requires-2 c κs = omega (arith, c .before .pre .1 ∙ ap fieldCount (c .match .keys5))
 
-shared-slice-copy-out-t12 : tie.Need-shared-slice-copy-out-t12
+shared-slice-copy-out-t13 : tie.Need-shared-slice-copy-out-t13
 unfolding fieldCount body-lengths
-shared-slice-copy-out-t12 c = omega (arith, c .before .before .pre .1 ∙ ap fieldCount (c .before .match .keys5))
+shared-slice-copy-out-t13 c = omega (arith, c .before .before .pre .1 ∙ ap fieldCount (c .before .match .keys5))
 
 u16-of-requires-3 : tie.Need-u16-of-requires-3
 unfolding fieldCount body-lengths
@@ -57,6 +58,10 @@ reading-of-requires-2 : tie.Need-reading-of-requires-2
 unfolding fieldCount body-lengths
 reading-of-requires-2 c κs = omega (arith, c .before .before .pre .1 ∙ ap fieldCount (c .before .match .keys7))
 
+u64-of-requires-2 : tie.Need-u64-of-requires-2
+unfolding fieldCount body-lengths
+u64-of-requires-2 c κs = omega (arith, c .before .pre .1 ∙ ap fieldCount (c .match .keys8))
+
 u32-of-requires : tie.Need-u32-of-requires
 unfolding fieldCount body-lengths
 u32-of-requires c κs = omega (arith, c .before .pre .1 ∙ ap fieldCount (last-kind _ (c .before .pre .0) (c .match .rest)))
@@ -67,7 +72,7 @@ returns c = rw (c .before .match .keys1) (ap Heading (c .heading-of .ensures))
 
 returns-2 : tie.Need-returns-2
 unfolding heldRecord
-returns-2 c = rw (c .before .match .keys2) (ap Party (c .u64-of .ensures))
+returns-2 c = rw (c .before .match .keys2) (ap (Party Own) (c .u64-of .ensures))
 
 returns-3 : tie.Need-returns-3
 unfolding heldRecord
@@ -91,7 +96,11 @@ returns-7 c = rw (c .before .before .match .keys7) (ap Reading (c .reading-of2 .
 
 returns-8 : tie.Need-returns-8
 unfolding heldRecord
-returns-8 c = rw (last-kind _ (c .before .before .pre .0) (c .before .match .rest)) (ap End (c .u32-of .ensures))
+returns-8 c = rw (c .before .match .keys8) (ap (Party Named) (c .u64-of2 .ensures))
+
+returns-9 : tie.Need-returns-9
+unfolding heldRecord
+returns-9 c = rw (last-kind _ (c .before .before .pre .0) (c .before .match .rest)) (ap End (c .u32-of .ensures))
 
 pub record-of-spec : {M : Type 1} → statement M
 record-of-spec =
@@ -103,11 +112,12 @@ record-of-spec =
     flows-of-requires
     reading-of-requires
     u16-of-requires-2
-    shared-slice-copy-out-t12
+    shared-slice-copy-out-t13
     u16-of-requires-3
     flows-of-requires-2
     weights-of-requires
     reading-of-requires-2
+    u64-of-requires-2
     u32-of-requires
     returns
     returns-2
@@ -116,4 +126,5 @@ record-of-spec =
     returns-5
     returns-6
     returns-7
-    returns-8)
+    returns-8
+    returns-9)

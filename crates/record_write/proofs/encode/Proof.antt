@@ -8,7 +8,7 @@ use Rattle.rules.proofs.EachKind.{body-lengths}
 use Rattle.record_write.proofs.Encoding.{record-bytes}
 use mathlib.Core.Path.{ap}
 use native.Mathlib.Omega.{arith}
-use Rattle.record_write.proofs.WriteOne.{room-of, gln-whole, price-small}
+use Rattle.record_write.proofs.WriteOne.{room-of, price-small}
 use borrow.Author.Needs.{needs}
 use Rattle.record_write.proofs.encode.Statement.{statement}
 use Rattle.record_write.proofs.encode.Tie as tie
@@ -18,31 +18,27 @@ enum-known-r c = search needs
 
 put-heading-requires : tie.Need-put-heading-requires
 unfolding body-lengths
-put-heading-requires c κs = omega (arith, room-of (c .before .before .before .before .before .before .pre) RRecord.headingKind (ap kindOf (c .before .before .r .given .1)))
+put-heading-requires c κs = omega (arith, room-of (c .before .before .before .before .before .before .before .pre) RRecord.headingKind (ap kindOf (c .before .before .r .given .1)))
 
 enum-known-r-2 : tie.Need-enum-known-r-2
 enum-known-r-2 c = search needs
 
-put-party-requires : tie.Need-put-party-requires
-unfolding body-lengths
-put-party-requires c κs =
-    let start = c .before .before .before .before .before .before in
-    let is = c .before .before .r2 .given .1 in
-    (gln-whole (start .pre) is, omega (arith, room-of (start .pre) RRecord.partyKind (ap kindOf is)))
+put-party-record-requires : tie.Need-put-party-record-requires
+put-party-record-requires c κs = rw (c .before .before .r2 .given .1) at (c .before .before .before .before .before .before .before .pre)
 
 enum-known-r-3 : tie.Need-enum-known-r-3
 enum-known-r-3 c = search needs
 
 put-hour-requires : tie.Need-put-hour-requires
 unfolding body-lengths
-put-hour-requires c κs = omega (arith, room-of (c .before .before .before .before .before .before .pre) RRecord.fixedHourKind (ap kindOf (c .before .before .r3 .given .1)))
+put-hour-requires c κs = omega (arith, room-of (c .before .before .before .before .before .before .before .pre) RRecord.fixedHourKind (ap kindOf (c .before .before .r3 .given .1)))
 
 enum-known-r-4 : tie.Need-enum-known-r-4
 enum-known-r-4 c = search needs
 
 put-reading-requires : tie.Need-put-reading-requires
 unfolding body-lengths
-put-reading-requires c κs = room-of (c .before .before .before .before .before .before .pre) _ (ap kindOf (c .before .before .r4 .given .1))
+put-reading-requires c κs = room-of (c .before .before .before .before .before .before .before .pre) _ (ap kindOf (c .before .before .r4 .given .1))
 
 enum-known-r-5 : tie.Need-enum-known-r-5
 enum-known-r-5 c = search needs
@@ -50,7 +46,7 @@ enum-known-r-5 c = search needs
 put-price-requires : tie.Need-put-price-requires
 unfolding body-lengths
 put-price-requires c κs =
-    let start = c .before .before .before .before .before .before in
+    let start = c .before .before .before .before .before .before .before in
     let is = c .before .before .r5 .given .1 in
     let f : SFits w64 (c .before .before .r5 .given .0 .1 .0) = search needs in
     (rw (toZ-ofZ f) (price-small (start .pre) is), omega (arith, room-of (start .pre) RRecord.priceKind (ap kindOf is)))
@@ -60,14 +56,14 @@ enum-known-r-6 c = search needs
 
 put-hour-requires-2 : tie.Need-put-hour-requires-2
 unfolding body-lengths
-put-hour-requires-2 c κs = omega (arith, room-of (c .before .before .before .before .before .before .pre) RRecord.refixedHourKind (ap kindOf (c .before .before .r6 .given .1)))
+put-hour-requires-2 c κs = omega (arith, room-of (c .before .before .before .before .before .before .before .pre) RRecord.refixedHourKind (ap kindOf (c .before .before .r6 .given .1)))
 
 enum-known-r-7 : tie.Need-enum-known-r-7
 enum-known-r-7 c = search needs
 
 put-end-requires : tie.Need-put-end-requires
 unfolding body-lengths
-put-end-requires c κs = omega (arith, room-of (c .before .before .before .before .before .before .pre) RRecord.endKind (ap kindOf (c .before .before .r7 .given .1)))
+put-end-requires c κs = omega (arith, room-of (c .before .before .before .before .before .before .before .pre) RRecord.endKind (ap kindOf (c .before .before .r7 .given .1)))
 
 same-length : tie.Need-same-length
 same-length c = search needs
@@ -79,7 +75,7 @@ same-length-2 : tie.Need-same-length-2
 same-length-2 c = search needs
 
 returns-2 : tie.Need-returns-2
-returns-2 c = rw (c .before .before .before .before .before .r2 .given .1) (c .before .before .put-party .ensures)
+returns-2 c = rw (c .before .before .before .before .before .r2 .given .1) (c .before .before .put-party-record .ensures)
 
 same-length-3 : tie.Need-same-length-3
 same-length-3 c = search needs
@@ -122,7 +118,7 @@ encode-spec =
     enum-known-r
     put-heading-requires
     enum-known-r-2
-    put-party-requires
+    put-party-record-requires
     enum-known-r-3
     put-hour-requires
     enum-known-r-4

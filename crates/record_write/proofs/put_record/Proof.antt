@@ -17,19 +17,19 @@ body-length-requires : tie.Need-body-length-requires
 body-length-requires c κs = search needs
 
 add-n : tie.Need-add-n
-add-n c = omega (arith, c .body-length .ensures ∙ ap bodyLength (c .before .kind-of .ensures), body-short (kindOf (c .before .before .before .before .args .r)))
+add-n c = omega (arith, c .body-length .ensures ∙ ap bodyLength (c .before .kind-of .ensures), body-short (kindOf (c .before .before .before .before .before .args .r)))
 
 returns : tie.Need-returns
 returns c =
-    let start = c .before .before .before .before .before in
-    too-short (start .args .gln .now) (start .args .r) (start .args .out .now) (start .pre)
+    let start = c .before .before .before .before .before .before in
+    too-short _ (start .args .r) (start .args .out .now) (start .pre)
     (omega (arith, c .before .body-length .ensures ∙ ap bodyLength (c .before .before .kind-of .ensures)))
 
 encode-requires : tie.Need-encode-requires
 encode-requires c κs =
-    let start = c .before .before .before .before .before .before in
+    let start = c .before .before .before .before .before .before .before in
     let kind = c .before .before .body-length .ensures ∙ ap bodyLength (c .before .before .before .kind-of .ensures) in
-    let size = size-is (start .args .gln .now) (start .args .r) (start .pre) in
+    let size = size-is _ (start .args .r) (start .pre) in
     record { sound = start .pre; room = omega (arith, kind, size) }
 
 same-length : tie.Need-same-length
@@ -37,8 +37,8 @@ same-length c = search needs
 
 returns-2 : tie.Need-returns-2
 returns-2 c =
-    let start = c .before .before .before .before .before .before .before .before .before in
-    has-room (start .args .gln .now) (start .args .r) (start .args .out .now) (start .pre)
+    let start = c .before .before .before .before .before .before .before .before .before .before in
+    has-room _ (start .args .r) (start .args .out .now) (start .pre)
     (ap (λ (n : ℕ). 1 + n) (c .before .before .before .before .before .body-length .ensures ∙ ap bodyLength (c .before .before .before .before .before .before .kind-of .ensures)))
     (omega arith) (c .before .before .encode .ensures)
 
