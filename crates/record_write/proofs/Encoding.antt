@@ -14,7 +14,8 @@ use Rattle.record_write.specs.Fields.{glue, uncomplemented}
 use Rattle.record_write.specs.Writing.{hourBytes, partyWith}
 use Rattle.rules.specs.Flows.{Flows}
 use Rattle.rules.specs.Limits.{glnDigits}
-use Rattle.rules.specs.Record.{headingKind, partyKind, readingKind, priceKind, endKind, longReadingKind, brpPartyKind, layouts, widthsIn, fieldWidths, Heading, ownBrp, namedBrp, thisMonth, manyMonths}
+use Rattle.rules.specs.Record.{headingKind, partyKind, readingKind, priceKind, endKind, longReadingKind, brpPartyKind, layouts, widthsIn, fieldWidths}
+use Rattle.rules.specs.Record.{Heading, ownBrp, namedBrp, thisMonth, manyMonths}
 use Rattle.rules.specs.Record.{heading, party, reading, price, end, bytesOf, fieldBytes, inWidths, hourFields, brpFields, weightFields, fieldsOf, recordBytes}
 use Rattle.rules.specs.Words.{joined}
 use Rattle.rules.proofs.Lines.{sets-append}
