@@ -35,14 +35,14 @@ use Rattle.text.specs.Text.{Put, LinePut, atStart}
 use Rattle.text.proofs.Puts.{put-then, put-as, put-length, put-at-start}
 
 -- THE LINES ONE AFTER THE OTHER
-module _ (file : List ℕ) (s : Sections) {sums : Sums} (per : T.Per) (settled : Settled file s sums) {estimated : ℕ} (counted : estimated ≡ estimatedHours (monthOf file)) where
+module _ (file : List ℕ) (s : Sections) {sums : Sums} (settled : Settled file s sums) {estimated : ℕ} (counted : estimated ≡ estimatedHours (monthOf file)) where
   module _ {before out₁ : List ℕ} {end₁ : ℕ}
       (h : Put (T.headingText (s .heading .area) (s .heading .year) (s .heading .month) (s .heading .hours) (s .heading .parties) estimated (s .refixed)) before 0 out₁ end₁)
       (h-within : end₁ ≤ 0 + headingRoom) where
     pub room-for-parties : statementRoom ≤ length before → end₁ + mostParties * columnsRoom ≤ length out₁
     room-for-parties room = omega (arith, put-length h)
 
-    module _ {out₂ : List ℕ} {end₂ : ℕ} (p : LinePut (T.linesPer per (monthOf file)) out₁ end₁ (mostParties * columnsRoom) out₂ end₂) where
+    module _ (per : T.Per) {out₂ : List ℕ} {end₂ : ℕ} (p : LinePut (T.linesPer per (monthOf file)) out₁ end₁ (mostParties * columnsRoom) out₂ end₂) where
       pub room-for-total : statementRoom ≤ length before → end₂ + columnsRoom ≤ length out₂
       room-for-total room = omega (arith, put-length h, put-length (p .put), p .within)
 
@@ -55,7 +55,7 @@ module _ (file : List ℕ) (s : Sections) {sums : Sums} (per : T.Per) (settled :
           }
 
 -- A MONTH THAT WAS ACCEPTED
-module _ (setting : Setting) (per : Per) (file : List ℕ) (s : Sections) (ok : Accepted file s) {outcome : Outcome} (is : OutcomeIs setting (monthOf file) outcome) (done : outcome .answer ≡ Done) where
+module _ (setting : Setting) (file : List ℕ) (s : Sections) (ok : Accepted file s) {outcome : Outcome} (is : OutcomeIs setting (monthOf file) outcome) (done : outcome .answer ≡ Done) where
   abbrev m : MonthFile
   m = monthOf file
 
@@ -68,11 +68,6 @@ module _ (setting : Setting) (per : Per) (file : List ℕ) (s : Sections) (ok : 
   pub counted : outcome .estimated ≡ estimatedHours m
   counted = is .estimated (ap said done)
 
-  -- THE STATEMENT OF THE FILE IS THESE LINES
-  statement-is : T.statementPer (perOf per) (asked setting) file ≡ T.statementLines (perOf per) m
-  unfolding T.statementPer T.answeredStatement T.judgedStatement
-  statement-is = ap (T.answeredStatement (perOf per) (asked setting)) (read-as file s ok (asked setting)) ∙ ap (T.judgedStatement (perOf per) m) no-refusal
-
   file-accepted : fileVerdict (asked setting) file ≡ R.accepted
   unfolding fileVerdict verdictOn
   file-accepted = ap (verdictOn (asked setting)) (read-as file s ok (asked setting)) ∙ no-refusal
@@ -81,25 +76,31 @@ module _ (setting : Setting) (per : Per) (file : List ℕ) (s : Sections) (ok : 
   unfolding textVerdict R.andThen
   text-verdict lent = ap (λ (v : R.Verdict). R.andThen v (R.unless (leb statementRoom lent) R.wrongLength 0)) file-accepted
 
-  pub too-short :
-      (lent : ℕ) → lent < statementRoom → told (S.Refused WrongLength 0) ≡ R.answer (textVerdict setting file lent) (length (T.statementPer (perOf per) (asked setting) file))
-  unfolding R.answer R.unless
-  too-short lent b =
-      let v : textVerdict setting file lent ≡ R.refused R.wrongLength 0 =
-      text-verdict lent ∙ ap (λ (t : Bool). R.unless t R.wrongLength 0) (lt-leb statementRoom lent b) in
-      ap (λ (w : R.Verdict). R.answer w (length (T.statementPer (perOf per) (asked setting) file))) (sym v)
+  module _ (per : Per) where
+    -- THE STATEMENT OF THE FILE IS THESE LINES
+    statement-is : T.statementPer (perOf per) (asked setting) file ≡ T.statementLines (perOf per) m
+    unfolding T.statementPer T.answeredStatement T.judgedStatement
+    statement-is = ap (T.answeredStatement (perOf per) (asked setting)) (read-as file s ok (asked setting)) ∙ ap (T.judgedStatement (perOf per) m) no-refusal
 
-  pub stated : {old new : List ℕ} {n : ℕ} → statementRoom ≤ length old → LinePut (T.statementLines (perOf per) m) old 0 statementRoom new n → Promised setting per file old (S.Lines n) new
-  unfolding R.answer R.afterwards R.unless atStart
-  stated {old} {new} {n} room l =
-      let v : textVerdict setting file (length old) ≡ R.accepted =
-      text-verdict (length old) ∙ ap (λ (t : Bool). R.unless t R.wrongLength 0) (le-leb statementRoom (length old) room) in
-      record {
-        answer =
-            ap R.given (omega (arith, l .put .ends) ∙ ap length (sym statement-is))
-            ∙ ap (λ (w : R.Verdict). R.answer w (length (T.statementPer (perOf per) (asked setting) file))) (sym v);
-        contents = put-at-start (l .put) (omega (arith, l .within)) ∙ ap (λ (t : List ℕ). t ++ drop (length t) old) (sym statement-is);
-      }
+    pub too-short :
+        (lent : ℕ) → lent < statementRoom → told (S.Refused WrongLength 0) ≡ R.answer (textVerdict setting file lent) (length (T.statementPer (perOf per) (asked setting) file))
+    unfolding R.answer R.unless
+    too-short lent b =
+        let v : textVerdict setting file lent ≡ R.refused R.wrongLength 0 =
+        text-verdict lent ∙ ap (λ (t : Bool). R.unless t R.wrongLength 0) (lt-leb statementRoom lent b) in
+        ap (λ (w : R.Verdict). R.answer w (length (T.statementPer (perOf per) (asked setting) file))) (sym v)
+
+    pub stated : {old new : List ℕ} {n : ℕ} → statementRoom ≤ length old → LinePut (T.statementLines (perOf per) m) old 0 statementRoom new n → Promised setting per file old (S.Lines n) new
+    unfolding R.answer R.afterwards R.unless atStart
+    stated {old} {new} {n} room l =
+        let v : textVerdict setting file (length old) ≡ R.accepted =
+        text-verdict (length old) ∙ ap (λ (t : Bool). R.unless t R.wrongLength 0) (le-leb statementRoom (length old) room) in
+        record {
+          answer =
+              ap R.given (omega (arith, l .put .ends) ∙ ap length (sym statement-is))
+              ∙ ap (λ (w : R.Verdict). R.answer w (length (T.statementPer (perOf per) (asked setting) file))) (sym v);
+          contents = put-at-start (l .put) (omega (arith, l .within)) ∙ ap (λ (t : List ℕ). t ++ drop (length t) old) (sym statement-is);
+        }
 
 -- a refused file: nothing is written
 pub refused-file : (setting : Setting) (per : Per) (file : List ℕ) (x : Refusal) (place : ℕ) (old : List ℕ) → fileVerdict (asked setting) file ≡ R.refused (named x) place
