@@ -36,13 +36,7 @@ fn file_text(file: &[u8], setting: Setting, per: Per, out: &mut [u8]) -> usize
 
 // The text of an input at the start of `out`, by how its reading ended: THE STATEMENT OF THE INPUT. Of one that is too long it is the same line, whatever its bytes;
 // one that could not be read has none.
-pub fn input_text(
-    ending: Ending,
-    file: &[u8],
-    setting: Setting,
-    per: Per,
-    out: &mut [u8],
-) -> usize
+pub fn input_text(ending: Ending, file: &[u8], setting: Setting, per: Per, out: &mut [u8]) -> usize
     requires { ⌜ statementRoom ≤ length (now out) ⌝ }
     ensures { λ n. ⌜ Promised setting per ending (now (file .entry)) (now (out .entry)) n (now (out .exit)) ⌝ }
 {
