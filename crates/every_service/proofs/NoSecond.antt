@@ -109,7 +109,7 @@ whole-files =
           λ setting file start hours lent r s held held′ p q.
           let e = hours-unique setting file start hours p q in
           (e .0, λ i. record { distributed = e .1 i; periodised = e .2 i; differences = e .3 i; losses = e .4 i });
-      statement = λ setting file lent r s held held′ p q. statement-unique p q;
+      statement = λ setting per file lent r s held held′ p q. statement-unique p q;
       hours-report =
           λ setting file lent r s held held′ p q.
           let e = report-unique p q in

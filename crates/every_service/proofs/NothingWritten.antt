@@ -99,7 +99,7 @@ nothing-written =
             differences = left _ _ _ refuses (p .differences) i;
             losses = left _ _ _ refuses (p .losses) i;
           };
-      statement = λ setting file lent r held refuses p. left _ _ _ refuses (p .contents);
+      statement = λ setting per file lent r held refuses p. left _ _ _ refuses (p .contents);
       hours-report =
           λ setting file lent r held refuses p i.
           record {

@@ -29,6 +29,7 @@ use Rattle.setting.specs.Asked as Asked
 use Rattle.setting.specs.declared.Setting.{Setting}
 use Rattle.settle_c.specs.Promised as C
 use Rattle.statement_text.specs.Stating as Statement
+use Rattle.statement_text.specs.declared.Per.{Per}
 
 -- no second answer fits a promise
 unfoldable pub OneFits : {Result : Type 0} → (Result → Type 0) → Type 0
@@ -88,7 +89,7 @@ pub record WholeFiles : Type 0 where
   pub month-run-hours :
       (setting : Setting) (file : List ℕ) (start hours : ℕ) (lent : RunOutputs)
       → OneFitsWith (RunPromised setting file start hours lent)
-  pub statement : (setting : Setting) (file lent : List ℕ) → OneFitsWith (Statement.Promised setting file lent)
+  pub statement : (setting : Setting) (per : Per) (file lent : List ℕ) → OneFitsWith (Statement.Promised setting per file lent)
   pub hours-report : (setting : Setting) (file : List ℕ) (lent : ReportBuffers) → OneFitsWith (ReportPromised setting file lent)
 
 -- AND THE ANSWERS THEMSELVES, 17 by the setting among them

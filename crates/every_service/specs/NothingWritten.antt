@@ -25,6 +25,7 @@ use Rattle.rules.specs.Plan.{LongReading}
 use Rattle.setting.specs.declared.Setting.{Setting}
 use Rattle.settle_c.specs.Promised as C
 use Rattle.statement_text.specs.Stating as Statement
+use Rattle.statement_text.specs.declared.Per.{Per}
 
 -- a refusal, whichever and wherever
 pub record Refused (v : Verdict) : Type 0 where
@@ -83,7 +84,7 @@ pub record NothingWritten : Type 0 where
       (setting : Setting) (file : List ℕ) (start hours : ℕ) (lent : RunOutputs)
       → Unwritten (Refuses said) lent (RunPromised setting file start hours lent)
   pub statement :
-      (setting : Setting) (file lent : List ℕ) → Unwritten (Refuses Statement.verdict) lent (Statement.Promised setting file lent)
+      (setting : Setting) (per : Per) (file lent : List ℕ) → Unwritten (Refuses Statement.verdict) lent (Statement.Promised setting per file lent)
   pub hours-report :
       (setting : Setting) (file : List ℕ) (lent : ReportBuffers)
       → Unwritten (Refuses Report.verdict) lent (ReportPromised setting file lent)

@@ -29,6 +29,7 @@ use Rattle.rules.specs.Setting as R
 use Rattle.rules.specs.Statement.{columnsLine, totalLine}
 use Rattle.rules.specs.WellFormed.{Bytes}
 use Rattle.rules.specs.Words.{sum, sumℤ, at, ascii, figures}
+use Rattle.rules.proofs.BrpDemands.{brp-demands}
 use Rattle.rules.proofs.Integers.{sumℤ-cong, sumℤ-swap}
 use Rattle.rules.proofs.Invoice.{column-as}
 use Rattle.rules.proofs.Readings.{accepted-month-of-readings}
@@ -277,6 +278,7 @@ module _ {setting : Setting} {file : List ℕ} {r : Settlement} (lent held : Out
           shares-accepted = W-in-range m judged;
           applied-within-limits = λ t b. (every-hour-has-its-figure m judged t b .residual-is, every-hour-has-its-figure m judged t b .at-most);
           demand-3 = demand-3-of-the-month m judged;
+          brps-meet = brp-demands m (W-in-range m judged .0);
           distributed-since-first = λ i b. signed-at (P m) (monthDistributed m) holds-distributed i b ∙ since-first m i;
           distributed-sums = signed-at (P m) (monthDistributed m) holds-distributed;
           periodised-sums = unsigned-at (P m) (monthPeriodised m) holds-periodised;

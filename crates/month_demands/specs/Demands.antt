@@ -11,6 +11,7 @@ use Rattle.month_sums.specs.Told.{lentRight, Promised}
 use Rattle.month_sums.specs.declared.Settlement.{Settlement}
 use Rattle.setting.specs.Asked.{asked}
 use Rattle.setting.specs.declared.Setting.{Setting}
+use Rattle.rules.specs.BrpDemands.{BrpDemands}
 use Rattle.rules.specs.Accepted.{NoneRefuses, FirstRefuses}
 use Rattle.rules.specs.Demands.{sumSinceFirst, Demand3}
 use Rattle.rules.specs.Flows.{residual}
@@ -103,6 +104,9 @@ pub record MonthMeets (setting : Setting) (file : List ℕ) (m : MonthFile) (hel
   -- hour is its exact share of the residual so far, rounded down or up to a whole Wh. Over any run of hours the sum is less than 2 Wh from the exact share.
   -- A party with a larger load share never has the smaller sum since the first hour."
   pub demand-3 : Demand3 (P m) (shareOf m) (appliedWh m)
+  -- W5: one line per BRP, rising, none twice and none left out; the BRPs' figures, columns and load shares add up; a BRP of n suppliers is less than n Wh off since the
+  -- first hour and less than 2n over any run
+  pub brps-meet : BrpDemands m
   -- "each party's sum of these since the month's first hour": after the last hour it is what the distributed output holds
   pub distributed-since-first : (i : ℕ) → i < P m → atℤ (held .distributed) i ≡ sumSinceFirst (P m) (shareOf m) (appliedWh m) (H m) i
   -- "distributed .. (month sums in Wh)": the sum of the hours' figures, each of which is one of those in demand 3
