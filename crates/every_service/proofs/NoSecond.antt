@@ -11,7 +11,7 @@ use Rattle.month_run.proofs.MonthSums.{hours-unique}
 use Rattle.plan.proofs.Given.{plan-once}
 use Rattle.reconcile_service.proofs.Unique.{reconciliation-once}
 use Rattle.record.proofs.Unique.{fault-once, read-once}
-use Rattle.record.specs.Record.{glns}
+use Rattle.record.specs.Record.{glns, glnsIn}
 use Rattle.record_write.proofs.Unique.{write-once}
 use Rattle.residual.proofs.Unique.{judge-once}
 use Rattle.rules.specs.Refusals.{Verdict, afterwards}
@@ -94,6 +94,7 @@ records =
       gln-part-at = λ file at. one-value _;
       body-length = λ kind. one-value _;
       fault = λ r gln brpGln hours parties place a b p q. fault-once hours parties place (glns gln brpGln) r a b p q;
+      fault-of-part = λ r part hours parties place a b p q. fault-once hours parties place (glnsIn part) r a b p q;
       read-alone = λ part r s p q. read-once _ r s p q;
       write = λ r gln brpGln lent v w held held′ p q. (write-once v w (p .0) (q .0), p .1 ∙ sym (q .1));
       write-plain = λ kind numbers gln brpGln lent v w held held′ p q. (write-once v w (p .0) (q .0), p .1 ∙ sym (q .1));

@@ -76,6 +76,7 @@ pub record Records : Type 0 where
   pub gln-part-at : (file : List ℕ) (at : ℕ) → OneFits (Gln.PartAtPromised file at)
   pub body-length : (kind : ℕ) → OneFits (Read.BodyLengthPromised kind)
   pub fault : (r : Record) (gln brpGln : List ℕ) (hours parties place : ℕ) → OneFits (Read.FaultPromised r gln brpGln hours parties place)
+  pub fault-of-part : (r : Record) (part : List ℕ) (hours parties place : ℕ) → OneFits (Read.PartFaultPromised r part hours parties place)
   pub read-alone : (part : List ℕ) → OneFits (Read.ReadAlonePromised part)
   pub write : (r : Record) (gln brpGln lent : List ℕ) → OneFitsWith (Write.Promised r gln brpGln lent)
   pub write-plain :

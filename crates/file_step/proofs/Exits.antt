@@ -19,7 +19,7 @@ use Rattle.answer.specs.declared.Refusal.the-variants.{UnknownKind, FileFault, 
 use Rattle.gln.specs.Gln.{glnAnswer}
 use Rattle.gln.specs.declared.Gln.{Gln}
 use Rattle.gln.specs.declared.Gln.the-variants.{Valid, Invalid}
-use Rattle.record.specs.Record.{recordOf, glns, glnsIn, faultOf, Whole}
+use Rattle.record.specs.Record.{recordOf, glnsIn, faultOf, Whole}
 use Rattle.record.specs.declared.Brp.{Brp}
 use Rattle.record.specs.declared.Record.{Record}
 use Rattle.record.specs.declared.Record.the-variants.{Heading, Party, FixedHour, Reading, Price, RefixedHour, End}
@@ -149,13 +149,9 @@ module _ {w : Walk} {bytes : List ℕ} {size : ℕ} where
       pub due : not d ≡ false → Due w bytes size r
       due e = record { standing = k; is = is; due = sym d-is ∙ not-false d e }
 
-  module _ {r : Record} {gln brpGln : List ℕ} {a : Answer} where
-    pub judged :
-        Due w bytes size r → gln ≡ glnsIn bytes .gln → brpGln ≡ glnsIn bytes .brpGln
-        → said a ≡ faultOf (w .heading .hours) (w .heading .parties) (glns gln brpGln) r (w .records)
-        → Judged w bytes size r a
-    judged k gln-is brp-is a-says =
-        record { due = k; says = a-says ∙ ap₂ (λ (g b : List ℕ). faultOf (w .heading .hours) (w .heading .parties) (glns g b) r (w .records)) gln-is brp-is }
+  module _ {r : Record} {a : Answer} where
+    pub judged : Due w bytes size r → said a ≡ faultOf (w .heading .hours) (w .heading .parties) (glnsIn bytes) r (w .records) → Judged w bytes size r a
+    judged k a-says = record { due = k; says = a-says }
 
   module _ {r : Record} {a : Answer} (j : Judged w bytes size r a) where
     k : Standing w bytes size
@@ -174,9 +170,8 @@ module _ {w : Walk} {bytes : List ℕ} {size : ℕ} where
           let further = moves-on w bytes size (k .sized .body) (k .fits) (k .sized .asked .few .counted) (known-kind k) r (j .due .is) in
           record { means = λ m st. G.judged-means m w st bytes (k .some) (whole-fits k) r (j .due .is) (j .due .due) sound size; moves = further (glnsIn bytes .gln) }
 
-      pub exit-judged : {gln : List ℕ} → gln ≡ glnsIn bytes .gln → {s : Step} → s ≡ judgedIn w r gln size → Stepped w bytes s
-      exit-judged gln-is {s} is =
-          subst (λ (z : Step). Stepped w bytes z) (sym (is ∙ ap (λ (l : List ℕ). judgedIn w r l size) gln-is)) judged-stepped
+      pub exit-judged : {s : Step} → s ≡ judgedIn w r (glnsIn bytes .gln) size → Stepped w bytes s
+      exit-judged is = subst (λ (z : Step). Stepped w bytes z) (sym is) judged-stepped
 
     pub judged-asks : (size ≤ 35) × Few w
     judged-asks = (omega (arith, k .sized .body, body-short (R.kindAt bytes)), k .sized .asked .few)

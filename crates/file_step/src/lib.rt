@@ -8,6 +8,7 @@ use record::Record;
 use setting::Setting;
 ghost use mathlib.Core.Path.{_≡_};
 ghost use Prim.Native.Nat.{_≤_};
+ghost use Rattle.record.specs.Record.{glnsIn};
 ghost use Rattle.file_step.specs.Walk.{startOf, dueIn, withIn, Few, Steppable, Stepped, movedIn, risenIn, countedIn, judgedIn};
 
 // How far the reading of a file has come: under which setting it is read, the records before, the heading (H and P are 0 until it is read), how many of each
@@ -125,19 +126,11 @@ impl Walk {
         if !due(self, r) {
             return Step::Refused(Refusal::OutOfOrder, records);
         }
-        let part = record::gln_in(rest);
-        let a = record::fault(
-            r,
-            part,
-            record::brp_gln_in(rest),
-            self.heading.hours,
-            self.heading.parties,
-            records,
-        );
+        let a = record::fault_of_part(r, rest, self.heading.hours, self.heading.parties, records);
         if let Answer::Refused(x, place) = a {
             return Step::Refused(x, place);
         }
-        judged(self, r, part, size)
+        judged(self, r, rest, size)
     }
 }
 
@@ -177,12 +170,12 @@ fn counted(w: Walk, count: u32) -> Step
 }
 
 // The last of a record's checks, and what it comes to: a party's GLN has to rise, an end has to count right.
-fn judged(w: Walk, r: Record, part: &[u8], size: usize) -> Step
+fn judged(w: Walk, r: Record, rest: &[u8], size: usize) -> Step
     requires { ⌜ (size ≤ 35) × Few w ⌝ }
-    ensures { λ s. ⌜ s ≡ judgedIn w r (now (part .entry)) size ⌝ }
+    ensures { λ s. ⌜ s ≡ judgedIn w r (glnsIn (now (rest .entry)) .gln) size ⌝ }
 {
     match r {
-        Record::Party(_, _) => risen(w, r, gln::check(part), size),
+        Record::Party(_, _) => risen(w, r, gln::check(record::gln_in(rest)), size),
         Record::End(count) => counted(w, count),
         _ => moved(w, r, 0, size),
     }

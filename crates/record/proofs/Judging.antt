@@ -1,13 +1,16 @@
 -- The rule of a record's fields stands once: what the code tests of the fields, with the GLN tested already, is what the rules test.
 use mathlib.Core.Bool.{Bool, true, false, cond, not, _&&_}
 use mathlib.Core.List.{List, [], _∷_}
-use mathlib.Core.Path.{_≡_, refl, sym, _∙_, ap}
+use mathlib.Core.Logic.{_⊎_, ⊎-elim}
+use mathlib.Core.Path.{_≡_, refl, sym, _∙_, ap, ap₂}
 use Prim.Native.Nat.{ℕ, zero, suc, _≤_, _<_}
 use native.Mathlib.Omega.{arith}
 use borrow.Author.Tests.{lt-ltb, le-ltb, le-leb, lt-leb}
 use lib.Dec.{leb, ltb, eqb, leb·zero, leb·suc-zero, eqb·suc-zero}
 use lib.IntN.{ℤ, pos, negsuc, natAbs}
 use lib.Signed.{leZ}
+use types.Run.{OneOf}
+use denote.Enum.Declared.{tagOf}
 use mir.Facts.{toZ-ofZ}
 use mir.Syntax.{w64}
 use mir.Val.{SFits, toZ, ofZ}
@@ -15,7 +18,9 @@ use Rattle.answer.proofs.Checks.{flag-off, flag-on}
 use Rattle.gln.specs.Gln.{glnAnswer}
 use Rattle.gln.specs.declared.Gln.{Gln}
 use Rattle.gln.specs.declared.Gln.the-variants.{Valid, Invalid}
-use Rattle.record.specs.Record.{headingOf, flowsOf, Glns, glns, noGlns, brpOf, faultOf}
+use Rattle.record.specs.Record.{headingOf, flowsOf, Glns, glns, noGlns, glnsIn, brpOf, faultOf}
+use Rattle.record.proofs.Record as RecordType
+use Rattle.record.specs.declared.Record.{Record}
 use Rattle.record.specs.declared.Record.the-variants.{Heading, Party, FixedHour, Reading, Price, RefixedHour, End}
 use Rattle.record.specs.declared.Brp as CBrp
 use Rattle.record.specs.declared.Brp.the-variants.{Own, Named}
@@ -90,6 +95,34 @@ reading-anyhow hours parties place beside r = refl
 pub end-has-none : (hours parties place : ℕ) (beside : Glns) (count : ℕ) → accepted ≡ faultOf hours parties beside (End count) place
 unfolding faultOf checks first andThen unless
 end-has-none hours parties place beside count = refl
+
+-- a party's with the GLNs that stand in a part
+pub party-in-part :
+    (hours parties place : ℕ) (part : List ℕ) (brp : CBrp.Brp) (share : ℕ) {gln brpGln : List ℕ} → gln ≡ glnsIn part .gln → brpGln ≡ glnsIn part .brpGln → {v : Verdict}
+    → v ≡ faultOf 0 0 (glns gln brpGln) (Party brp share) place
+    → v ≡ faultOf hours parties (glnsIn part) (Party brp share) place
+party-in-part hours parties place part brp share gln-is brp-is e =
+    e ∙ ap₂ (λ (g b : List ℕ). faultOf 0 0 (glns g b) (Party brp share) place) gln-is brp-is ∙ party-anywhere hours parties place (glnsIn part) brp share
+
+-- a number is none of six others
+none-of : (k : ℕ) {a b c d e f : ℕ} → (k ≡ a → ⊥) → (k ≡ b → ⊥) → (k ≡ c → ⊥) → (k ≡ d → ⊥) → (k ≡ e → ⊥) → (k ≡ f → ⊥)
+    → (k ≡ a) ⊎ ((k ≡ b) ⊎ ((k ≡ c) ⊎ ((k ≡ d) ⊎ ((k ≡ e) ⊎ (k ≡ f)))))
+    → ⊥
+none-of k na nb nc nd ne nf t = ⊎-elim na (⊎-elim nb (⊎-elim nc (⊎-elim nd (⊎-elim ne nf)))) t
+
+-- nor do a record's GLNs, where it is no party: one of the variants that a match on a party leaves, numbered as they stand in `record::Record`
+pub no-gln-looked-at :
+    (hours parties place : ℕ) (beside other : Glns) (r : Record) → OneOf (0 ∷ 2 ∷ 3 ∷ 4 ∷ 5 ∷ 6 ∷ []) (tagOf RecordType.the-type r)
+    → faultOf hours parties beside r place ≡ faultOf hours parties other r place
+unfolding faultOf checks
+no-gln-looked-at hours parties place beside other (Heading h) t = refl
+no-gln-looked-at hours parties place beside other (Party brp share) t =
+    absurd (none-of 1 (λ q. omega arith) (λ q. omega arith) (λ q. omega arith) (λ q. omega arith) (λ q. omega arith) (λ q. omega arith) t)
+no-gln-looked-at hours parties place beside other (FixedHour hour f) t = refl
+no-gln-looked-at hours parties place beside other (Reading r) t = refl
+no-gln-looked-at hours parties place beside other (Price hour p) t = refl
+no-gln-looked-at hours parties place beside other (RefixedHour hour f) t = refl
+no-gln-looked-at hours parties place beside other (End count) t = refl
 
 -- whether a GLN is valid, as the check tells it
 pub valid-is : (bytes : List ℕ) {g : Gln} → g ≡ glnAnswer bytes → {n : ℕ} → g ≡ Valid n → true ≡ validGln bytes

@@ -1,6 +1,6 @@
 -- Reading one record alone: each test of the code is the next check of the rules, and past the tests of kind and length the rule of the fields decides.
 use mathlib.Core.List.{List}
-use mathlib.Core.Path.{_≡_, sym, _∙_, ap, ap₂}
+use mathlib.Core.Path.{_≡_, sym, _∙_, ap}
 use Prim.Native.Nat.{ℕ, _+_, _≤_, _<_}
 use borrow.Author.Tests.{le-leb, lt-leb}
 use lib.ListN.{length}
@@ -8,7 +8,7 @@ use Rattle.answer.specs.Said.{named, said}
 use Rattle.answer.specs.declared.Answer as A
 use Rattle.answer.specs.declared.Answer.the-variants.{Done, Refused}
 use Rattle.answer.specs.declared.Refusal as A′
-use Rattle.record.specs.Record.{Whole, recordOf, glns, glnsIn, faultOf}
+use Rattle.record.specs.Record.{Whole, recordOf, glnsIn, faultOf}
 use Rattle.record.specs.declared.Record as C
 use Rattle.rules.specs.Record.{Record, bodyLength, known, kindAt, recordAt, alone, checks, readAlone}
 use Rattle.rules.specs.Refusals.{Verdict, Answer, given, refusal, fileFault, unknownKind, unless, andThen, first, answer}
@@ -41,12 +41,11 @@ module _ (s : List ℕ) where
             rw (le-leb 1 (length s) some, le-leb 1 (bodyLength (kindAt s)) kind, le-leb (1 + bodyLength (kindAt s)) (length s) fits)
 
         -- what the rule of the fields says of the decoded record is the answer
-        module _ (r : C.Record) (decoded : recordOf (glnsIn s) r ≡ recordAt s) {gln brpGln : List ℕ} (there : gln ≡ glnsIn s .gln) (brp-there : brpGln ≡ glnsIn s .brpGln)
-            (a : A.Answer) (fault : said a ≡ faultOf mostHours mostParties (glns gln brpGln) r 0) where
+        module _ (r : C.Record) (decoded : recordOf (glnsIn s) r ≡ recordAt s) (a : A.Answer) (fault : said a ≡ faultOf mostHours mostParties (glnsIn s) r 0) where
           told-by : answer (said a) (recordOf (glnsIn s) r) ≡ readAlone s
           unfolding faultOf
           told-by =
-              ap (λ (v : Verdict). answer v (recordOf (glnsIn s) r)) (fault ∙ ap₂ (λ (g b : List ℕ). faultOf mostHours mostParties (glns g b) r 0) there brp-there)
+              ap (λ (v : Verdict). answer v (recordOf (glnsIn s) r)) fault
               ∙ ap (λ (x : Record). answer (first (checks alone x)) x) decoded
               ∙ judged
 

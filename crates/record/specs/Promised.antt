@@ -17,6 +17,10 @@ BodyLengthPromised kind n = n ≡ bodyLength kind
 abbrev pub FaultPromised : Record → List ℕ → List ℕ → ℕ → ℕ → ℕ → Answer → Type 0
 FaultPromised r gln brpGln hours parties place a = said a ≡ faultOf hours parties (glns gln brpGln) r place
 
+-- `fault_of_part`: the same, with the bytes that stand for its GLNs in the part
+abbrev pub PartFaultPromised : Record → List ℕ → ℕ → ℕ → ℕ → Answer → Type 0
+PartFaultPromised r part hours parties place a = said a ≡ faultOf hours parties (glnsIn part) r place
+
 -- `read_alone`
 abbrev pub ReadAlonePromised : List ℕ → Read → Type 0
 ReadAlonePromised part r = told (glnsIn part) r ≡ readAlone part

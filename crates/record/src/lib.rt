@@ -11,7 +11,7 @@ ghost use mathlib.Core.Path.{_≡_};
 ghost use Prim.Native.Nat.{_+_, _≤_};
 ghost use lib.ListN.{length, take, drop};
 ghost use Rattle.record.specs.Record.{recordOf, headingOf, flowsOf, kindOfBrp, overOf, readingOf, glnsIn, flowsAt, recordAs, Whole};
-ghost use Rattle.record.specs.Promised.{BodyLengthPromised, FaultPromised, ReadAlonePromised};
+ghost use Rattle.record.specs.Promised.{BodyLengthPromised, FaultPromised, PartFaultPromised, ReadAlonePromised};
 ghost use Rattle.rules.specs.Record.{headingKind, readingKind, longReadingKind, readingKindOf, heading, reading, bodyLength, numberOnto, signed, recordAt};
 
 // "01 heading: area 2, year 2, month 1, hours H 2, parties P 1, loss carrier 1"
@@ -265,6 +265,18 @@ pub fn fault(r: Record, gln: &[u8], brp_gln: &[u8], hours: u16, parties: u8, pla
     }
 }
 
+// The same of the record that stands at the start of a part: a party's GLNs are looked for where they stand, and of another kind nothing is.
+pub fn fault_of_part(r: Record, part: &[u8], hours: u16, parties: u8, place: usize) -> Answer
+    ensures { λ a. ⌜ PartFaultPromised r (now (part .entry)) hours parties place a ⌝ }
+{
+    match r {
+        Record::Party(brp, share) => {
+            rule::party_fault(brp, share, gln_in(part), brp_gln_in(part), place)
+        }
+        _ => fault(r, b"", b"", hours, parties, place),
+    }
+}
+
 // "One record can also be read alone, by 2, 1 and then the same rules (an empty part is 1); bytes after it are not looked at."
 pub fn read_alone(part: &[u8]) -> Read
     ensures { λ r. ⌜ ReadAlonePromised (now (part .entry)) r ⌝ }
@@ -280,14 +292,7 @@ pub fn read_alone(part: &[u8]) -> Read
         return Read::Refused(Refusal::FileFault, 0);
     }
     let r = decode(part);
-    let a = fault(
-        r,
-        gln_in(part),
-        brp_gln_in(part),
-        MOST_HOURS,
-        MOST_PARTIES,
-        0,
-    );
+    let a = fault_of_part(r, part, MOST_HOURS, MOST_PARTIES, 0);
     match a {
         Answer::Done => Read::Given(r),
         Answer::Refused(x, place) => Read::Refused(x, place),

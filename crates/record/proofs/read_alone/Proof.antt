@@ -31,14 +31,8 @@ decode-requires : tie.Need-decode-requires
 unfolding kindAt at
 decode-requires c κs = stands-whole _ (omega arith) (omega (arith, c .before .before .body-length .ensures)) (omega (arith, c .before .before .body-length .ensures))
 
-gln-in-requires : tie.Need-gln-in-requires
-gln-in-requires c κs = search needs
-
-brp-gln-in-requires : tie.Need-brp-gln-in-requires
-brp-gln-in-requires c κs = search needs
-
-fault-requires : tie.Need-fault-requires
-fault-requires c κs = search needs
+fault-of-part-requires : tie.Need-fault-of-part-requires
+fault-of-part-requires c κs = search needs
 
 enum-told : tie.Need-enum-told
 enum-told c = search needs
@@ -49,23 +43,15 @@ enum-known-a c = search needs
 returns-4 : tie.Need-returns-4
 unfolding kindAt at
 returns-4 c =
-    let size = c .before .before .before .before .before .before .before .before .body-length .ensures in
-    whole-record _ (omega arith) (omega (arith, size)) (omega (arith, size)) _ (c .before .before .before .before .before .decode .ensures)
-    (c .before .before .before .before .gln-in .ensures)
-    (c .before .before .before .brp-gln-in .ensures)
-    _
-    (c .before .before .fault .ensures)
+    let size = c .before .before .before .before .before .before .body-length .ensures in
+    whole-record _ (omega arith) (omega (arith, size)) (omega (arith, size)) _ (c .before .before .before .decode .ensures) _ (c .before .before .fault-of-part .ensures)
     (c .enum-told .given .1)
 
 returns-5 : tie.Need-returns-5
 unfolding kindAt at
 returns-5 c =
-    let size = c .before .before .before .before .before .before .before .before .before .body-length .ensures in
-    faulty-record _ (omega arith) (omega (arith, size)) (omega (arith, size)) _ (c .before .before .before .before .before .before .decode .ensures)
-    (c .before .before .before .before .before .gln-in .ensures)
-    (c .before .before .before .before .brp-gln-in .ensures)
-    _
-    (c .before .before .before .fault .ensures)
+    let size = c .before .before .before .before .before .before .before .body-length .ensures in
+    faulty-record _ (omega arith) (omega (arith, size)) (omega (arith, size)) _ (c .before .before .before .before .decode .ensures) _ (c .before .before .before .fault-of-part .ensures)
     (c .before .a .given .1)
 
 pub read-alone-spec : {M : Type 1} → statement M
@@ -79,9 +65,7 @@ read-alone-spec =
     sub-if3
     returns-3
     decode-requires
-    gln-in-requires
-    brp-gln-in-requires
-    fault-requires
+    fault-of-part-requires
     enum-told
     enum-known-a
     returns-4
