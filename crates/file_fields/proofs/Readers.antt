@@ -123,7 +123,9 @@ module _ (file : List ℕ) (s : Sections) (ok : Accepted file s) where
   party-fits : (i : ℕ) → i < s .heading .parties → s .«parties_at» + s .«party_size» * i + s .«party_size» ≤ length file
   unfolding partyAt
   party-fits i b =
-      let its-size = W.every-at (λ (p : R.Party). 1 + lengthOf (R.party p) ≡ partySize) (m .parties) (one-size (m .parties) (whole .one-kind)) i (record { gln = []; brp = R.ownBrp; share = 0 }) (omega (arith, parties-are file s ok, whole .all-parties)) in
+      let sizes = one-size (m .parties) (whole .one-kind) in
+      let there : i < length (m .parties) = omega (arith, parties-are file s ok, whole .all-parties) in
+      let its-size = W.every-at (λ (p : R.Party). 1 + lengthOf (R.party p) ≡ partySize) (m .parties) sizes i (record { gln = []; brp = R.ownBrp; share = 0 }) there in
       omega (arith, party-stands i b .fits, its-size, starts .5)
 
 -- bytes enough for a record that there is room for

@@ -100,7 +100,16 @@ module _ (m : MonthFile) (w : Walk) (st : Stands m w) where
   pub stands-with : (beside : Glns) (number : ℕ) (r : Record) → Kept beside number r → Stands (F.with m (recordOf beside r)) (withIn w r number)
   unfolding F.with
   stands-with beside number (Heading h) s =
-      record { heading = refl; parties = st .parties; fixed = st .fixed; refixed = st .refixed; prices = st .prices; readings = st .readings; rising = st .rising; kind = st .kind }
+      record {
+        heading = refl;
+        parties = st .parties;
+        fixed = st .fixed;
+        refixed = st .refixed;
+        prices = st .prices;
+        readings = st .readings;
+        rising = st .rising;
+        kind = st .kind;
+      }
   stands-with beside number (Party brp share) s =
       record {
         heading = st .heading;
@@ -113,15 +122,60 @@ module _ (m : MonthFile) (w : Walk) (st : Stands m w) where
         kind = sym (last-one-more (m .parties) (partyIn beside brp share) ∙ kind-is brp (beside .brpGln));
       }
   stands-with beside number (FixedHour hour f) s =
-      record { heading = st .heading; parties = st .parties; fixed = one-more (m .fixed) _ (st .fixed); refixed = st .refixed; prices = st .prices; readings = st .readings; rising = st .rising; kind = st .kind }
+      record {
+        heading = st .heading;
+        parties = st .parties;
+        fixed = one-more (m .fixed) _ (st .fixed);
+        refixed = st .refixed;
+        prices = st .prices;
+        readings = st .readings;
+        rising = st .rising;
+        kind = st .kind;
+      }
   stands-with beside number (Reading r) s =
-      record { heading = st .heading; parties = st .parties; fixed = st .fixed; refixed = st .refixed; prices = st .prices; readings = one-more (m .readings) _ (st .readings); rising = st .rising; kind = st .kind }
+      record {
+        heading = st .heading;
+        parties = st .parties;
+        fixed = st .fixed;
+        refixed = st .refixed;
+        prices = st .prices;
+        readings = one-more (m .readings) _ (st .readings);
+        rising = st .rising;
+        kind = st .kind;
+      }
   stands-with beside number (Price hour p) s =
-      record { heading = st .heading; parties = st .parties; fixed = st .fixed; refixed = st .refixed; prices = one-more (m .prices) _ (st .prices); readings = st .readings; rising = st .rising; kind = st .kind }
+      record {
+        heading = st .heading;
+        parties = st .parties;
+        fixed = st .fixed;
+        refixed = st .refixed;
+        prices = one-more (m .prices) _ (st .prices);
+        readings = st .readings;
+        rising = st .rising;
+        kind = st .kind;
+      }
   stands-with beside number (RefixedHour hour f) s =
-      record { heading = st .heading; parties = st .parties; fixed = st .fixed; refixed = one-more (m .refixed) _ (st .refixed); prices = st .prices; readings = st .readings; rising = st .rising; kind = st .kind }
+      record {
+        heading = st .heading;
+        parties = st .parties;
+        fixed = st .fixed;
+        refixed = one-more (m .refixed) _ (st .refixed);
+        prices = st .prices;
+        readings = st .readings;
+        rising = st .rising;
+        kind = st .kind;
+      }
   stands-with beside number (End count) s =
-      record { heading = st .heading; parties = st .parties; fixed = st .fixed; refixed = st .refixed; prices = st .prices; readings = st .readings; rising = st .rising; kind = st .kind }
+      record {
+        heading = st .heading;
+        parties = st .parties;
+        fixed = st .fixed;
+        refixed = st .refixed;
+        prices = st .prices;
+        readings = st .readings;
+        rising = st .rising;
+        kind = st .kind;
+      }
 
 -- IN A FILE A RECORD HAS THE CHECKS THAT IT HAS BY ITSELF, and then two more: a party's GLN has to rise, and an end has to count right.
 module _ (m : MonthFile) (n : ℕ) where

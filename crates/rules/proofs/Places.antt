@@ -1,5 +1,6 @@
 -- Where each record of a file stands: a file that is read has its heading at 0, then the parties, the fixed hours, the refixed hours and the prices, each kind
--- at a fixed distance, and the readings, each behind the bytes of those before it; the parties likewise, whose records are all of one length (W5). What has been read so far takes up as many bytes as its records have.
+-- at a fixed distance, and the readings, each behind the bytes of those before it; the parties likewise, whose records are all of one length (W5). What has been
+-- read so far takes up as many bytes as its records have.
 use mathlib.Core.Bool.{Bool, true, false, _&&_, _||_}
 use mathlib.Core.List.{List, [], _∷_, _++_}
 use mathlib.Core.Logic.{_⊎_, inl, inr, ⊎-elim}
@@ -114,7 +115,9 @@ next-size make (x ∷ (y ∷ l)) zero d b = omega arith
 next-size make (x ∷ (y ∷ l)) (suc k) d b = omega (arith, next-size make (y ∷ l) k d (omega arith))
 
 -- records of one length: the k-th stands behind k times so many bytes
-pub equal-sizes : {A : Type 0} (make : A → Record) (size : ℕ) (l : List A) → Every (λ (x : A). 1 + lengthOf (make x) ≡ size) l → (k : ℕ) → k ≤ length l → sizesBefore make l k ≡ size * k
+pub equal-sizes :
+    {A : Type 0} (make : A → Record) (size : ℕ) (l : List A) → Every (λ (x : A). 1 + lengthOf (make x) ≡ size) l → (k : ℕ) → k ≤ length l
+    → sizesBefore make l k ≡ size * k
 unfolding sizesBefore
 equal-sizes make size [] same k b = let none : k ≡ 0 = omega arith in rw none (omega arith)
 equal-sizes make size (x ∷ l) same zero b = omega arith

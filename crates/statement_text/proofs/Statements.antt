@@ -90,7 +90,9 @@ module _ (setting : Setting) (file : List ℕ) (s : Sections) (ok : Accepted fil
         text-verdict lent ∙ ap (λ (t : Bool). R.unless t R.wrongLength 0) (lt-leb statementRoom lent b) in
         ap (λ (w : R.Verdict). R.answer w (length (T.statementPer (perOf per) (asked setting) file))) (sym v)
 
-    pub stated : {old new : List ℕ} {n : ℕ} → statementRoom ≤ length old → LinePut (T.statementLines (perOf per) m) old 0 statementRoom new n → Promised setting per file old (S.Lines n) new
+    pub stated :
+        {old new : List ℕ} {n : ℕ} → statementRoom ≤ length old → LinePut (T.statementLines (perOf per) m) old 0 statementRoom new n
+        → Promised setting per file old (S.Lines n) new
     unfolding R.answer R.afterwards R.unless atStart
     stated {old} {new} {n} room l =
         let v : textVerdict setting file (length old) ≡ R.accepted =

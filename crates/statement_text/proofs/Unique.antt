@@ -24,7 +24,9 @@ told-once (Refused x place) (Refused y other) e =
     let same : x ≡ y = named-once x y same-name in
     cc
 
-pub statement-unique : {setting : Setting} {per : Per} {file old : List ℕ} {r r′ : Stated} {new new′ : List ℕ} → Promised setting per file old r new → Promised setting per file old r′ new′ → (r ≡ r′) × (new ≡ new′)
+pub statement-unique :
+    {setting : Setting} {per : Per} {file old : List ℕ} {r r′ : Stated} {new new′ : List ℕ} → Promised setting per file old r new → Promised setting per file old r′ new′
+    → (r ≡ r′) × (new ≡ new′)
 statement-unique {setting} {per} {file} {old} {r} {r′} {new} {new′} p q =
     let same : r ≡ r′ = told-once r r′ (p .answer ∙ sym (q .answer)) in
     (same, p .contents ∙ ap (λ (x : Stated). R.afterwards (verdict x) (atStart (T.statementPer (perOf per) (asked setting) file) old) old) same ∙ sym (q .contents))

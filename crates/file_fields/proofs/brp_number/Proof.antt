@@ -17,10 +17,14 @@ enum-told : tie.Need-enum-told
 enum-told c = search needs
 
 returns : tie.Need-returns
-returns c = number-is _ _ _ (c .before .before .before .before .before .before .pre) (c .before .before .before .before .brp-gln-of .ensures) (c .before .before .before .check .ensures) (c .before .number .given .1)
+returns c =
+    let checked = c .before .before .before in
+    number-is _ _ _ (checked .before .before .before .pre) (checked .before .brp-gln-of .ensures) (checked .check .ensures) (c .before .number .given .1)
 
 returns-2 : tie.Need-returns-2
-returns-2 c = absurd (never-invalid _ _ _ (c .before .before .before .before .before .pre) (c .before .before .before .brp-gln-of .ensures) (c .before .before .check .ensures) (c .enum-told .given .1))
+returns-2 c =
+    let checked = c .before .before in
+    absurd (never-invalid _ _ _ (checked .before .before .before .pre) (checked .before .brp-gln-of .ensures) (checked .check .ensures) (c .enum-told .given .1))
 
 pub brp-number-spec : {M : Type 1} → statement M
 brp-number-spec =

@@ -28,8 +28,9 @@ fault-requires c κs = search needs
 
 returns : tie.Need-returns
 returns c =
+    let start = c .before .before .before .before .before .before .before in
     rw (c .before .before .before .before .r .given .1)
-    (party-in-part _ _ _ (c .before .before .before .before .before .before .before .args .part .now) _ _ (c .before .before .gln-in .ensures) (c .before .brp-gln-in .ensures) (c .party-fault .ensures))
+    (party-in-part _ _ _ (start .args .part .now) _ _ (c .before .before .gln-in .ensures) (c .before .brp-gln-in .ensures) (c .party-fault .ensures))
 
 returns-2 : tie.Need-returns-2
 returns-2 c =
