@@ -31,10 +31,10 @@ use Rattle.rules.proofs.Places.{Standing, Placed, sizesBefore, allSizes, next-s
 use Rattle.rules.proofs.Whole as W
 
 -- PARTIES OF ONE KIND have records of one length, that of the last one's
-like-the-last : (k : ℕ) (q : R.Party) (later : List R.Party) → R.partyKindOf (q .brp) ≡ k → W.Every (λ (p : R.Party). R.partyKindOf (p .brp) ≡ k) later → kindOfTheLast (q ∷ later) ≡ k
+kind-of-all : (k : ℕ) (q : R.Party) (later : List R.Party) → R.partyKindOf (q .brp) ≡ k → W.Every (λ (p : R.Party). R.partyKindOf (p .brp) ≡ k) later → kindOfTheLast (q ∷ later) ≡ k
 unfolding kindOfTheLast
-like-the-last k q [] e all = e
-like-the-last k q (x ∷ later) e all = like-the-last k x later (all .0) (all .1)
+kind-of-all k q [] e all = e
+kind-of-all k q (x ∷ later) e all = kind-of-all k x later (all .0) (all .1)
 
 of-one-kind : (k : ℕ) (q : R.Party) (later : List R.Party) → R.partyKindOf (q .brp) ≡ k → W.Every (W.SameKind q) later → W.Every (λ (p : R.Party). R.partyKindOf (p .brp) ≡ k) later
 of-one-kind k q [] e all = tt
@@ -49,7 +49,7 @@ one-size [] all = tt
 one-size (q ∷ later) all =
     let k : ℕ = R.partyKindOf (q .brp) in
     let alike = of-one-kind k q later refl all in
-    rw (like-the-last k q later refl alike) (of-one-size k (q ∷ later) (refl, alike))
+    rw (kind-of-all k q later refl alike) (of-one-size k (q ∷ later) (refl, alike))
 
 -- Where the records of an accepted file stand, by its sections.
 module _ (file : List ℕ) (s : Sections) (ok : Accepted file s) where

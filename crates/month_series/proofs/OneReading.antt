@@ -19,7 +19,6 @@ use Rattle.rules.specs.Month.{monthOf, curve, readingAt, S, wholeOf, readingChe
 use Rattle.rules.specs.MonthFile.{MonthFile, H, P}
 use Rattle.rules.specs.Record.{Reading, reading}
 use Rattle.rules.specs.Refusals.{Verdict, first}
-use Rattle.rules.specs.Words.{sum}
 use Rattle.rules.proofs.Loops.{figures-length, figures-at}
 use Rattle.rules.proofs.Places.{sizesBefore}
 use Rattle.rules.proofs.Whole.{every-at, ReadingRight}

@@ -8,7 +8,7 @@ use borrow.Author.Tests.{le-leb}
 use Rattle.gln.specs.Gln.{glnPart}
 use lib.ListN.{length, getD, take, drop, length-drop}
 use lib.Seq.{drop-drop, length-take-le}
-use Rattle.record.specs.Record.{Whole, recordAs, flowsAt, glns, glnsIn}
+use Rattle.record.specs.Record.{Whole, recordAs, flowsAt, glnsIn}
 use Rattle.rules.specs.Limits.{glnDigits}
 use Rattle.rules.specs.Record.{headingKind, partyKind, fixedHourKind, readingKind, priceKind, refixedHourKind, endKind, longReadingKind, brpPartyKind, hourWidths, layouts, widthsIn}
 use Rattle.rules.specs.Record.{fieldWidths, ownBrp, namedBrp, thisMonth, manyMonths}

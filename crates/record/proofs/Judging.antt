@@ -18,7 +18,7 @@ use Rattle.answer.proofs.Checks.{flag-off, flag-on}
 use Rattle.gln.specs.Gln.{glnAnswer}
 use Rattle.gln.specs.declared.Gln.{Gln}
 use Rattle.gln.specs.declared.Gln.the-variants.{Valid, Invalid}
-use Rattle.record.specs.Record.{headingOf, flowsOf, Glns, glns, noGlns, glnsIn, brpOf, faultOf}
+use Rattle.record.specs.Record.{headingOf, flowsOf, Glns, glns, noGlns, glnsIn, faultOf}
 use Rattle.record.proofs.Record as RecordType
 use Rattle.record.specs.declared.Record.{Record}
 use Rattle.record.specs.declared.Record.the-variants.{Heading, Party, FixedHour, Reading, Price, RefixedHour, End}

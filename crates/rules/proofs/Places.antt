@@ -16,13 +16,12 @@ use lib.Seq.{drop-drop, getD-at}
 use Rattle.rules.specs.Accepted.{NoneRefuses}
 use Rattle.rules.specs.Flows.{Flows}
 use Rattle.rules.specs.MonthFile.{MonthFile, nothingYet, H, P, due, alikeAfter, recordChecks, with, isEnd, closed, readOn, readMonth}
-use Rattle.rules.specs.Record.{Heading, Party, thisMonth, Reading, Record, heading, party, fixedHour, reading, price, refixedHour, end, bodyLength, known, fieldWidths}
+use Rattle.rules.specs.Record.{Heading, Party, Reading, Record, heading, party, fixedHour, reading, price, refixedHour, end, bodyLength, known, fieldWidths}
 use Rattle.rules.specs.Record.{cutInto, kindAt, recordAt, inFile, headingInRange, checks}
 use Rattle.rules.specs.Refusals.{given, first}
 use Rattle.rules.specs.Setting.{Setting}
 use Rattle.rules.specs.WellFormed.{Every, asParty, asReading}
-use Rattle.rules.specs.Words.{at, sum}
-use Rattle.rules.proofs.Sums.{sum-cong}
+use Rattle.rules.specs.Words.{at}
 use Rattle.rules.proofs.Whole.{Counts, Sound, before-the-heading, both-pass, heading-facts, step, nothing-is-sound, went-on, closed-gives, of-the-right-length}
 use Rattle.rules.proofs.Refusals.{accepted-exactly, unless-exactly, given-not-refusal}
 pub use Rattle.rules.proofs.EachKind.{lengthOf, partyLength, readingLength, length-of-record}
