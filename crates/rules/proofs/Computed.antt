@@ -13,9 +13,10 @@ use Rattle.rules.specs.Gln.{allDigits, digitAtPosition, weightOfPosition
 use Rattle.rules.specs.Services.{atℤ, sameℤ, checkAt, eachAt, checkAtℤ, eachAtℤ, flowsOf, silentCheck, hourCheck, residualChecks, residualAt, residualFigures, curveFits, curveChecks}
 use Rattle.rules.specs.Services.{curveAt, curveFigures, distributionChecks, distributedAt, distributionFigures, periodisationChecks, periodisationFigures, distributedFits}
 use Rattle.rules.specs.Services.{reconciliationChecks, reconciliationLoss, reconciliationDifferences, amountAt, reconciliationAmounts, invoiceChecks, invoiceFigures}
+use Rattle.rules.specs.Services.{differenceIn, addsUpCheck, isBeyond, beyondCheck, amountsChecks, pricedAt, amountsFigures}
 use Rattle.rules.specs.Record.{layouts, widthsIn, fieldWidths, totalOf, bodyLength, known, numberOnto, bytesOf, signed, unsigned, cutInto, field, numberAt, signedAt, headingFrom}
 use Rattle.rules.specs.Record.{flowsFrom, partyFrom, readingFrom, neverAsked, recordFrom, kindAt, recordAt, fieldBytes, inWidths, hourFields, weightFields, fieldsOf, recordBytes, nothingYet, H, P, with}
-use Rattle.rules.specs.Record.{brpFields, due, afterTheLast, alikeAfter, risesAfter, headingInRange, hourInRange, checks, readAlone, writeVerdict, written}
+use Rattle.rules.specs.Record.{brpFields, hoursThere, pricesThere, due, allPriced, pricedFor, afterTheLast, alikeAfter, risesAfter, headingInRange, hourInRange, checks, readAlone, writeVerdict, written}
 use Rattle.rules.specs.PlainRecord.{noSign, nthNoSign, plainHeading, plainFlows, plainReading, plainRecord, standIn, fieldsHold, plainVerdict}
 use Rattle.rules.specs.MonthFile.{recordChecks, isEnd, closed, onward, readOn, readMonth}
 use Rattle.rules.specs.Month.{partyAt, flowsAt, readingAt, priceAt, shareOf, monthW, fixedWh, appliedFlows, appliedWh, curve, distributed, weightOf, S, weightBefore, wholeWeight}
@@ -68,11 +69,15 @@ unfolding curveFigures distributionChecks distributedAt distributionFigures peri
 services-2 = tt
 
 unfoldable pub services-3 : Unit {0}
-unfolding reconciliationLoss reconciliationDifferences amountAt reconciliationAmounts invoiceChecks invoiceFigures
+unfolding reconciliationLoss reconciliationDifferences amountAt reconciliationAmounts invoiceChecks invoiceFigures differenceIn addsUpCheck isBeyond
 services-3 = tt
 
+unfoldable pub services-4 : Unit {0}
+unfolding beyondCheck amountsChecks pricedAt amountsFigures
+services-4 = tt
+
 unfoldable pub services : Unit {0}
-unfolding services-1 services-2 services-3
+unfolding services-1 services-2 services-3 services-4
 services = tt
 
 unfoldable pub records-1 : Unit {0}
@@ -84,7 +89,7 @@ unfolding partyFrom readingFrom neverAsked recordFrom kindAt recordAt fieldBytes
 records-2 = tt
 
 unfoldable pub records-3 : Unit {0}
-unfolding brpFields afterTheLast alikeAfter headingInRange hourInRange checks readAlone writeVerdict written
+unfolding brpFields hoursThere pricesThere allPriced pricedFor afterTheLast alikeAfter headingInRange hourInRange checks readAlone writeVerdict written
 records-3 = tt
 
 unfoldable pub records : Unit {0}

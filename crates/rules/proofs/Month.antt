@@ -9,13 +9,13 @@ use native.Mathlib.Omega.{arith}
 use borrow.Author.Tests.{leb-true}
 use lib.Dec.{leb, eqb}
 use lib.IntN.{ℤ, pos, negsuc, natAbs, _+ℤ_, _-ℤ_}
-use lib.ListN.{length}
+use lib.ListN.{length, List·getD-eq-default}
 use Rattle.rules.specs.Accepted.{NoneRefuses}
 use Rattle.rules.specs.Demands.{Demand3}
 use Rattle.rules.specs.Distributed.{distributedFigure, runningAfter}
 use Rattle.rules.specs.Flows.{Flows, figure, noFigure, residual, judged, judgedBy, verdictOf, residualWh, appliedSeries, W}
 use Rattle.rules.specs.Invoice.{InvoiceColumn}
-use Rattle.rules.specs.Limits.{mostHours, greatestW, greatestResidual, greatestCurveNumber, greatestPeriodised, greatestPrice}
+use Rattle.rules.specs.Limits.{mostHours, greatestW, greatestResidual, greatestCurveNumber, greatestPeriodised, greatestPrice, greatestDifference}
 use Rattle.rules.specs.Month.{flowsAt, shareOf, monthW, appliedFlows, appliedWh, priceAt, periodised, allPeriodised, loss, distributed}
 use Rattle.rules.specs.Month.{difference, amount, monthDifference, monthAmount, invoice, monthDistributed, hourVerdict, curveVerdict}
 use Rattle.rules.specs.Month.{periodisedVerdict, monthChecks, monthVerdict, curve}
@@ -31,10 +31,6 @@ use Rattle.rules.proofs.Reconciliation.{differences-add-up, amounts-add
 use Rattle.rules.proofs.Refusals.{accepted-exactly, in-turn-exactly, unless-exactly, refused-not-accepted}
 use Rattle.rules.proofs.Sums.{sum-member}
 use Rattle.rules.proofs.Whole.{Whole, within-size, HeadingFacts, heading-facts, every-at, within-is, PriceRight}
-
--- the most that a party's difference of an hour can be, of either sign: one more than the greatest residual and the most that is periodised
-abbrev pub greatestDifference : ℕ
-greatestDifference = suc greatestResidual
 
 -- An hour that is judged to have a figure: it is not missing, and its residual is that figure, within the limit.
 pub record HasFigure (f : Flows) : Type 0 where
@@ -203,8 +199,9 @@ module _ (m : MonthFile) (j : Judged m) where
     pub price-fits : natAbs (priceAt m t) ≤ greatestPrice
     unfolding priceAt H
     price-fits =
-        within-size greatestPrice (priceAt m t)
-        (every-at PriceRight (m .prices) (j .whole .prices) t (pos 0) (omega (arith, j .whole .all-prices)))
+        ⊎-elim (λ (none : length (m .prices) ≡ 0). rw (List·getD-eq-default (m .prices) (pos 0) {n = t} (omega arith)) (omega arith))
+        (λ (all : length (m .prices) ≡ H m). within-size greatestPrice (priceAt m t) (every-at PriceRight (m .prices) (j .whole .prices) t (pos 0) (omega arith)))
+        (j .whole .none-or-all-prices)
 
     pub amount-fits : natAbs (amount m t i) ≤ greatestDifference * greatestPrice
     unfolding amount amountMillionths

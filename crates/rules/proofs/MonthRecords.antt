@@ -2,7 +2,7 @@
 -- to (`records-are`), and the records of a whole month pass and add up to it (`whole-month-passes`).
 use mathlib.Core.Bool.{Bool, true, false, _&&_, _||_}
 use mathlib.Core.List.{List, [], _∷_, _++_, append-assoc, append-nil}
-use mathlib.Core.Logic.{⊎-elim}
+use mathlib.Core.Logic.{_⊎_, ⊎-elim}
 use mathlib.Core.Path.{_≡_, refl, sym, _∙_, ap, ap₂, subst}
 use Prim.Native.Nat.{ℕ, suc, _+_, _<_}
 use native.Mathlib.Omega.{arith}
@@ -12,14 +12,15 @@ use lib.IntN.{ℤ}
 use lib.ListN.{length, length-append}
 use Rattle.rules.specs.Flows.{Flows}
 use Rattle.rules.specs.Limits.{greatestShare, greatestEnergy}
-use Rattle.rules.specs.MonthFile.{MonthFile, nothingYet, H, P, due, afterTheLast, alikeAfter, risesAfter, with, isEnd}
-use Rattle.rules.specs.Record.{partyKindOf, Party, Reading, Record, heading, party, fixedHour, reading, price, refixedHour, end, inFile, headingInRange, hourInRange, checks}
+use Rattle.rules.specs.MonthFile.{MonthFile, nothingYet, H, P, hoursThere, pricesThere, due, allPriced, pricedFor, afterTheLast, alikeAfter, risesAfter, with, isEnd}
+use Rattle.rules.specs.Record.{partyKindOf, Party, Reading, Record, heading, party, fixedHour, reading, price, refixedHour, end, setReadings, inFile, headingInRange, hourInRange, checks}
 use Rattle.rules.specs.ReadingRefused.{Passes, AllPass, withAll}
 use Rattle.rules.specs.Refusals.{unless, andThen, first}
-use Rattle.rules.specs.WellFormed.{Every, numbered, asParty, asReading, recordsOf, Rising, SameKind, OneKind, PartyRight, FlowsRight, PriceRight, ReadingRight, ReadingHeld, Whole}
-use Rattle.rules.proofs.Places.{parties-due, fixed-due, no-readings}
+use Rattle.rules.specs.Setting.{Prices, needed, optional}
+use Rattle.rules.specs.WellFormed.{Every, numbered, asParty, asReading, recordsOf, Rising, SameKind, OneKind, PartyRight, FlowsRight, PriceRight, ReadingRight, ReadingHeld, Whole, Priced}
+use Rattle.rules.proofs.Places.{parties-due, fixed-due}
 use Rattle.rules.proofs.Refusals.{accepted-exactly, unless-exactly}
-use Rattle.rules.proofs.Whole.{true-not-false, Sound, nothing-is-sound, heading-facts, both-pass, rises-strictly, step}
+use Rattle.rules.proofs.Whole.{true-not-false, Sound, nothing-is-sound, heading-facts, both-pass, rises-strictly, price-due, step}
 
 -- WHAT PASSES IS A MONTH'S RECORDS: where a record is due, the sections after its own are still empty, so it is the next of the month's records
 
@@ -106,17 +107,16 @@ module _ (m : MonthFile) where
       after-parties (fixedHour hour f) (at-its-end (numbered fixedHour 0 (m .fixed)) _ from-refixed _ next (no-refixed (none .0) (none .1) (none .2)))
   one-more s some (refixedHour hour f) go d =
       let hours-left = eqb (length (m .fixed)) (H m) && ltb (length (m .refixed)) (H m) in
-      let tests = both-pass (hours-left && eqb (length (m .prices)) 0) (eqb hour (length (m .refixed))) d in
-      let no-prices : length (m .prices) ≡ 0 = eqb-true (length (m .prices)) 0 (both-pass hours-left (eqb (length (m .prices)) 0) (tests .0) .1) in
+      let tests = both-pass (hours-left && eqb (length (m .prices)) 0 && eqb (length (m .readings)) 0) (eqb hour (length (m .refixed))) d in
+      let none = both-pass (hours-left && eqb (length (m .prices)) 0) (eqb (length (m .readings)) 0) (tests .0) in
+      let no-prices : length (m .prices) ≡ 0 = eqb-true (length (m .prices)) 0 (both-pass hours-left (eqb (length (m .prices)) 0) (none .0) .1) in
       let next = next-numbered refixedHour (m .refixed) f (eqb-true hour (length (m .refixed)) (tests .1)) in
       after-fixed (refixedHour hour f)
-      (at-its-end (numbered refixedHour 0 (m .refixed)) _ from-prices _ next (no-price no-prices (no-readings (s .counts) (omega arith))))
+      (at-its-end (numbered refixedHour 0 (m .refixed)) _ from-prices _ next (no-price no-prices (eqb-true (length (m .readings)) 0 (none .1))))
   one-more s some (price hour z) go d =
-      let all-hours = eqb (length (m .fixed)) (H m) && (eqb (length (m .refixed)) 0 || eqb (length (m .refixed)) (H m)) in
-      let tests = both-pass (all-hours && ltb (length (m .prices)) (H m)) (eqb hour (length (m .prices))) d in
-      let not-all : length (m .prices) < H m = ltb-true (length (m .prices)) (H m) (both-pass all-hours (ltb (length (m .prices)) (H m)) (tests .0) .1) in
-      let next = next-numbered price (m .prices) z (eqb-true hour (length (m .prices)) (tests .1)) in
-      after-refixed (price hour z) (at-its-end (numbered price 0 (m .prices)) _ the-readings _ next (no-reading (no-readings (s .counts) not-all)))
+      let is-due = price-due m hour z d in
+      let next = next-numbered price (m .prices) z (is-due .in-turn) in
+      after-refixed (price hour z) (at-its-end (numbered price 0 (m .prices)) _ the-readings _ next (no-reading (is-due .no-readings)))
   one-more s some (reading r) go d =
       after-refixed (reading r)
       (later-on (numbered price 0 (m .prices)) the-readings _ (reading r) (next-numbered asReading (m .readings) r {k = length (m .readings)} refl))
@@ -133,70 +133,71 @@ module _ (m : MonthFile) where
   still-headed some (reading r) d = some
   still-headed some (end count) d = some
 
-all-more : (records : List Record) (m : MonthFile) → Sound m → 0 < H m → (n : ℕ) → AllPass m n records → recordsOf (withAll m records) ≡ recordsOf m ++ records
+all-more : (prices : Prices) (records : List Record) (m : MonthFile) → Sound m → 0 < H m → (n : ℕ) → AllPass prices m n records → recordsOf (withAll m records) ≡ recordsOf m ++ records
 unfolding withAll
-all-more [] m s some n all = sym (append-nil (recordsOf m))
-all-more (r ∷ records) m s some n all =
-    let p : Passes m n r = all .0 in
-    all-more records (with m r) (step m s n r (p .is-due) (p .none-refuses)) (still-headed m some r (p .is-due)) (suc n) (all .1)
+all-more prices [] m s some n all = sym (append-nil (recordsOf m))
+all-more prices (r ∷ records) m s some n all =
+    let p : Passes prices m n r = all .0 in
+    all-more prices records (with m r) (step m s n r (p .is-due) (p .none-refuses)) (still-headed m some r (p .is-due)) (suc n) (all .1)
     ∙ ap (λ (t : List Record). t ++ records) (one-more m s some r (p .not-the-end) (p .is-due))
     ∙ append-assoc (recordsOf m) (r ∷ []) records
 
 -- before the heading nothing but the heading is due
-pub records-are : (records : List Record) → AllPass nothingYet 0 records → 0 < H (withAll nothingYet records) → recordsOf (withAll nothingYet records) ≡ records
-unfolding withAll with due isEnd nothingYet H P checks recordsOf numbered
-records-are [] all some = absurd (omega arith)
-records-are (heading h ∷ records) all some =
+pub records-are : (prices : Prices) (records : List Record) → AllPass prices nothingYet 0 records → 0 < H (withAll nothingYet records) → recordsOf (withAll nothingYet records) ≡ records
+unfolding withAll with hoursThere due isEnd nothingYet H P checks recordsOf numbered
+records-are prices [] all some = absurd (omega arith)
+records-are prices (heading h ∷ records) all some =
     let right : headingInRange h ≡ true = unless-exactly (headingInRange h) _ _ .0 (all .0 .none-refuses .0) in
-    all-more records (with nothingYet (heading h)) (step nothingYet nothing-is-sound 0 (heading h) (all .0 .is-due) (all .0 .none-refuses)) (heading-facts h right .hours .0) 1 (all .1)
-records-are (party p ∷ records) all some = absurd (true-not-false (sym (all .0 .is-due)))
-records-are (fixedHour hour f ∷ records) all some = absurd (true-not-false (sym (all .0 .is-due)))
-records-are (refixedHour hour f ∷ records) all some = absurd (true-not-false (sym (all .0 .is-due)))
-records-are (price hour z ∷ records) all some = absurd (true-not-false (sym (all .0 .is-due)))
-records-are (reading r ∷ records) all some = absurd (true-not-false (sym (all .0 .is-due)))
-records-are (end count ∷ records) all some = absurd (true-not-false (all .0 .not-the-end))
+    all-more prices records (with nothingYet (heading h)) (step nothingYet nothing-is-sound 0 (heading h) (all .0 .is-due) (all .0 .none-refuses)) (heading-facts h right .hours .0) 1 (all .1)
+records-are prices (party p ∷ records) all some = absurd (true-not-false (sym (all .0 .is-due)))
+records-are prices (fixedHour hour f ∷ records) all some = absurd (true-not-false (sym (all .0 .is-due)))
+records-are prices (refixedHour hour f ∷ records) all some = absurd (true-not-false (sym (all .0 .is-due)))
+records-are prices (price hour z ∷ records) all some = absurd (true-not-false (sym (all .0 .is-due)))
+records-are prices (reading r ∷ records) all some = absurd (true-not-false (sym (all .0 .is-due)))
+records-are prices (end count ∷ records) all some = absurd (true-not-false (all .0 .not-the-end))
 
 -- A WHOLE MONTH'S RECORDS PASS, section by section
 
 -- records that pass, whatever their numbers, and take one month to another
-pub record Through (m : MonthFile) (records : List Record) (to : MonthFile) : Type 0 where
-  pub pass : (n : ℕ) → AllPass m n records
+pub record Through (prices : Prices) (m : MonthFile) (records : List Record) (to : MonthFile) : Type 0 where
+  pub pass : (n : ℕ) → AllPass prices m n records
   pub gives : withAll m records ≡ to
 
-both-pass-on : (a b : List Record) (m : MonthFile) (n : ℕ) → AllPass m n a → ((k : ℕ) → AllPass (withAll m a) k b) → AllPass m n (a ++ b)
+both-pass-on : (prices : Prices) (a b : List Record) (m : MonthFile) (n : ℕ) → AllPass prices m n a → ((k : ℕ) → AllPass prices (withAll m a) k b) → AllPass prices m n (a ++ b)
 unfolding withAll
-both-pass-on [] b m n p q = q n
-both-pass-on (r ∷ a) b m n p q = (p .0, both-pass-on a b (with m r) (suc n) (p .1) q)
+both-pass-on prices [] b m n p q = q n
+both-pass-on prices (r ∷ a) b m n p q = (p .0, both-pass-on prices a b (with m r) (suc n) (p .1) q)
 
 with-both : (a b : List Record) (m : MonthFile) → withAll m (a ++ b) ≡ withAll (withAll m a) b
 unfolding withAll
 with-both [] b m = refl
 with-both (r ∷ a) b m = with-both a b (with m r)
 
-then-through : {m mid to : MonthFile} {a b : List Record} → Through m a mid → Through mid b to → Through m (a ++ b) to
-then-through {m} {mid} {to} {a} {b} t u =
+then-through : {prices : Prices} {m mid to : MonthFile} {a b : List Record} → Through prices m a mid → Through prices mid b to → Through prices m (a ++ b) to
+then-through {prices} {m} {mid} {to} {a} {b} t u =
     record {
-      pass = λ n. both-pass-on a b m n (t .pass n) (λ k. subst (λ (x : MonthFile). AllPass x k b) (sym (t .gives)) (u .pass k));
+      pass = λ n. both-pass-on prices a b m n (t .pass n) (λ k. subst (λ (x : MonthFile). AllPass prices x k b) (sym (t .gives)) (u .pass k));
       gives = with-both a b m ∙ ap (λ (x : MonthFile). withAll x b) (t .gives) ∙ u .gives;
     }
 
 -- one section: `put l` is the month that has so much of it
 module _
+    (asked : Prices)
     {A : Type 0}
     (make : ℕ → A → Record)
     (put : List A → MonthFile)
     (all : List A)
     (adds : (done : List A) (n : ℕ) (x : A) → with (put done) (make n x) ≡ put (done ++ (x ∷ [])))
-    (right : (done : List A) (x : A) (later : List A) → all ≡ done ++ (x ∷ later) → (n : ℕ) → Passes (put done) n (make (length done) x))
+    (right : (done : List A) (x : A) (later : List A) → all ≡ done ++ (x ∷ later) → (n : ℕ) → Passes asked (put done) n (make (length done) x))
   where
-    section : (l done : List A) → all ≡ done ++ l → Through (put done) (numbered make (length done) l) (put all)
+    section : (l done : List A) → all ≡ done ++ l → Through asked (put done) (numbered make (length done) l) (put all)
     unfolding withAll numbered
     section [] done e = record { pass = λ n. tt; gives = ap put (sym (e ∙ append-nil done)) }
     section (x ∷ l) done e =
-        let rest : Through (put (done ++ (x ∷ []))) (numbered make (length (done ++ (x ∷ []))) l) (put all) = section l (done ++ (x ∷ [])) (e ∙ sym (append-assoc done (x ∷ []) l)) in
-        let numbered-on : Through (put (done ++ (x ∷ []))) (numbered make (suc (length done)) l) (put all) =
-        subst (λ (k : ℕ). Through (put (done ++ (x ∷ []))) (numbered make k l) (put all)) (length-append done (x ∷ []) ∙ omega arith) rest in
-        let next = subst (λ (m : MonthFile). Through m (numbered make (suc (length done)) l) (put all)) (sym (adds done (length done) x)) numbered-on in
+        let rest : Through asked (put (done ++ (x ∷ []))) (numbered make (length (done ++ (x ∷ []))) l) (put all) = section l (done ++ (x ∷ [])) (e ∙ sym (append-assoc done (x ∷ []) l)) in
+        let numbered-on : Through asked (put (done ++ (x ∷ []))) (numbered make (suc (length done)) l) (put all) =
+        subst (λ (k : ℕ). Through asked (put (done ++ (x ∷ []))) (numbered make k l) (put all)) (length-append done (x ∷ []) ∙ omega arith) rest in
+        let next = subst (λ (m : MonthFile). Through asked m (numbered make (suc (length done)) l) (put all)) (sym (adds done (length done) x)) numbered-on in
         record { pass = λ n. (right done x l e n, next .pass (suc n)); gives = next .gives }
 
 -- what is known of an entry of a list
@@ -206,6 +207,22 @@ there is (y ∷ done) x later h = there is done x later (h .1)
 
 not-the-last : {A : Type 0} (done : List A) (x : A) (later : List A) {all : List A} {n : ℕ} → all ≡ done ++ (x ∷ later) → length all ≡ n → length done < n
 not-the-last done x later e size = omega (arith, ap length e, length-append done (x ∷ later))
+
+-- where one is there of what may be left out, all are
+all-or-none : {A : Type 0} {all : List A} {n : ℕ} (done : List A) (x : A) (later : List A) → all ≡ done ++ (x ∷ later) → (length all ≡ 0) ⊎ (length all ≡ n) → length all ≡ n
+all-or-none {A} {all} {n} done x later e none-or-all =
+    ⊎-elim (λ (z : length all ≡ 0). absurd (omega (arith, not-the-last done x later e z))) (λ (h : length all ≡ n). h) none-or-all
+
+pub all-priced : (prices : Prices) (m : MonthFile) → Priced prices m → allPriced prices m ≡ true
+unfolding allPriced
+all-priced needed m e = eq-eqb (length (m .prices)) (H m) e
+all-priced optional m e = refl
+
+-- the same of the month with other readings
+priced-so-far : (prices : Prices) (m : MonthFile) (readings : List Reading) → Priced prices m → allPriced prices (setReadings m readings) ≡ true
+unfolding allPriced H
+priced-so-far needed m readings e = eq-eqb (length (m .prices)) (H m) e
+priced-so-far optional m readings e = refl
 
 rises-there : (done : List Party) (x : Party) (later : List Party) → Rising (done ++ (x ∷ later)) → risesAfter done x ≡ true
 unfolding risesAfter afterTheLast
@@ -228,7 +245,7 @@ either-way : (a : Bool) {b : Bool} → b ≡ true → a || b ≡ true
 either-way true e = refl
 either-way false e = e
 
-module _ (m : MonthFile) (w : Whole m) (held : Every ReadingHeld (m .readings)) where
+module _ (asked : Prices) (m : MonthFile) (w : Whole m) (held : Every ReadingHeld (m .readings)) where
   abbrev to-parties : List Party → MonthFile
   to-parties l = record { heading = m .heading; parties = l; fixed = []; refixed = []; prices = []; readings = [] }
 
@@ -244,13 +261,13 @@ module _ (m : MonthFile) (w : Whole m) (held : Every ReadingHeld (m .readings)) 
   abbrev to-readings : List Reading → MonthFile
   to-readings l = record { heading = m .heading; parties = m .parties; fixed = m .fixed; refixed = m .refixed; prices = m .prices; readings = l }
 
-  heading-passes : (n : ℕ) → Passes nothingYet n (heading (m .heading))
-  unfolding isEnd due nothingYet H checks first andThen unless
+  heading-passes : (n : ℕ) → Passes asked nothingYet n (heading (m .heading))
+  unfolding isEnd due pricedFor nothingYet H checks first andThen unless
   heading-passes n =
-      record { not-the-end = refl; is-due = refl; none-refuses = accepted-exactly (checks (inFile nothingYet n) (heading (m .heading))) .0 (rw (w .head)); held = tt }
+      record { not-the-end = refl; is-due = refl; is-priced = refl; none-refuses = accepted-exactly (checks (inFile nothingYet n) (heading (m .heading))) .0 (rw (w .head)); held = tt }
 
-  party-passes : (done : List Party) (x : Party) (later : List Party) → m .parties ≡ done ++ (x ∷ later) → (n : ℕ) → Passes (to-parties done) n (party x)
-  unfolding isEnd due P checks first andThen unless
+  party-passes : (done : List Party) (x : Party) (later : List Party) → m .parties ≡ done ++ (x ∷ later) → (n : ℕ) → Passes asked (to-parties done) n (party x)
+  unfolding isEnd due pricedFor P checks first andThen unless
   party-passes done x later e n =
       let right : PartyRight x = there PartyRight done x later (subst (Every PartyRight) e (w .parties)) in
       let like : alikeAfter done x ≡ true = alike-there done x later (subst OneKind e (w .one-kind)) in
@@ -258,6 +275,7 @@ module _ (m : MonthFile) (w : Whole m) (held : Every ReadingHeld (m .readings)) 
       record {
         not-the-end = refl;
         is-due = rw (lt-ltb (length done) (P m) (not-the-last done x later e (w .all-parties)), like);
+        is-priced = refl;
         none-refuses = accepted-exactly (checks (inFile (to-parties done) n) (party x)) .0 (rw (le-leb (x .share) greatestShare (right .0), right .1, right .2, rises-here));
         held = tt;
       }
@@ -266,49 +284,57 @@ module _ (m : MonthFile) (w : Whole m) (held : Every ReadingHeld (m .readings)) 
   unfolding hourInRange
   hour-right hour f b right = rw (lt-ltb hour (H m) b, right .0, right .1)
 
-  fixed-passes : (done : List Flows) (x : Flows) (later : List Flows) → m .fixed ≡ done ++ (x ∷ later) → (n : ℕ) → Passes (to-fixed done) n (fixedHour (length done) x)
-  unfolding isEnd due H P checks first andThen unless
+  fixed-passes : (done : List Flows) (x : Flows) (later : List Flows) → m .fixed ≡ done ++ (x ∷ later) → (n : ℕ) → Passes asked (to-fixed done) n (fixedHour (length done) x)
+  unfolding isEnd due pricedFor H P checks first andThen unless
   fixed-passes done x later e n =
       let right : FlowsRight x = there FlowsRight done x later (subst (Every FlowsRight) e (w .fixed)) in
       let b : length done < H m = not-the-last done x later e (w .all-fixed) in
       record {
         not-the-end = refl;
         is-due = rw (eq-eqb (length (m .parties)) (P m) (w .all-parties), lt-ltb (length done) (H m) b, eq-eqb (length done) (length done) refl);
+        is-priced = refl;
         none-refuses = accepted-exactly (checks (inFile (to-fixed done) n) (fixedHour (length done) x)) .0 (rw (hour-right (length done) x b right));
         held = tt;
       }
 
-  -- there are as many refixed hours as hours, where there is one
-  all-refixed : (done : List Flows) (x : Flows) (later : List Flows) → m .refixed ≡ done ++ (x ∷ later) → length (m .refixed) ≡ H m
-  all-refixed done x later e =
-      ⊎-elim (λ (z : length (m .refixed) ≡ 0). absurd (omega (arith, not-the-last done x later e z))) (λ (h : length (m .refixed) ≡ H m). h) (w .none-or-all-refixed)
-
-  refixed-passes : (done : List Flows) (x : Flows) (later : List Flows) → m .refixed ≡ done ++ (x ∷ later) → (n : ℕ) → Passes (to-refixed done) n (refixedHour (length done) x)
-  unfolding isEnd due H P checks first andThen unless
+  refixed-passes : (done : List Flows) (x : Flows) (later : List Flows) → m .refixed ≡ done ++ (x ∷ later) → (n : ℕ) → Passes asked (to-refixed done) n (refixedHour (length done) x)
+  unfolding isEnd due pricedFor H P checks first andThen unless
   refixed-passes done x later e n =
       let right : FlowsRight x = there FlowsRight done x later (subst (Every FlowsRight) e (w .refixed)) in
-      let b : length done < H m = not-the-last done x later e (all-refixed done x later e) in
+      let b : length done < H m = not-the-last done x later e (all-or-none done x later e (w .none-or-all-refixed)) in
       record {
         not-the-end = refl;
         is-due = rw (eq-eqb (length (m .fixed)) (H m) (w .all-fixed), lt-ltb (length done) (H m) b, eq-eqb (length done) (length done) refl);
+        is-priced = refl;
         none-refuses = accepted-exactly (checks (inFile (to-refixed done) n) (refixedHour (length done) x)) .0 (rw (hour-right (length done) x b right));
         held = tt;
       }
 
-  none-or-all : eqb (length (m .refixed)) 0 || eqb (length (m .refixed)) (H m) ≡ true
-  none-or-all =
+  hours-read : hoursThere m ≡ true
+  unfolding hoursThere
+  hours-read =
+      let none-or-all : eqb (length (m .refixed)) 0 || eqb (length (m .refixed)) (H m) ≡ true =
       ⊎-elim (λ (z : length (m .refixed) ≡ 0). rw (eq-eqb (length (m .refixed)) 0 z))
       (λ (h : length (m .refixed) ≡ H m). either-way (eqb (length (m .refixed)) 0) (eq-eqb (length (m .refixed)) (H m) h))
-      (w .none-or-all-refixed)
+      (w .none-or-all-refixed) in
+      rw (eq-eqb (length (m .fixed)) (H m) (w .all-fixed), none-or-all)
 
-  price-passes : (done : List ℤ) (x : ℤ) (later : List ℤ) → m .prices ≡ done ++ (x ∷ later) → (n : ℕ) → Passes (to-prices done) n (price (length done) x)
-  unfolding isEnd due H P checks first andThen unless
+  pub prices-read : pricesThere m ≡ true
+  unfolding pricesThere
+  prices-read =
+      ⊎-elim (λ (z : length (m .prices) ≡ 0). either-way (eqb (length (m .prices)) (H m)) (rw (eq-eqb (length (m .prices)) 0 z, hours-read)))
+      (λ (all : length (m .prices) ≡ H m). rw (eq-eqb (length (m .prices)) (H m) all))
+      (w .none-or-all-prices)
+
+  price-passes : (done : List ℤ) (x : ℤ) (later : List ℤ) → m .prices ≡ done ++ (x ∷ later) → (n : ℕ) → Passes asked (to-prices done) n (price (length done) x)
+  unfolding isEnd due hoursThere pricedFor H P checks first andThen unless
   price-passes done x later e n =
       let right : PriceRight x = there PriceRight done x later (subst (Every PriceRight) e (w .prices)) in
-      let early : ltb (length done) (H m) ≡ true = lt-ltb (length done) (H m) (not-the-last done x later e (w .all-prices)) in
+      let early : ltb (length done) (H m) ≡ true = lt-ltb (length done) (H m) (not-the-last done x later e (all-or-none done x later e (w .none-or-all-prices))) in
       record {
         not-the-end = refl;
-        is-due = rw (eq-eqb (length (m .fixed)) (H m) (w .all-fixed), none-or-all, early, eq-eqb (length done) (length done) refl);
+        is-due = rw (hours-read, early, eq-eqb (length done) (length done) refl);
+        is-priced = refl;
         none-refuses = accepted-exactly (checks (inFile (to-prices done) n) (price (length done) x)) .0 (rw (early, right));
         held = tt;
       }
@@ -317,30 +343,32 @@ module _ (m : MonthFile) (w : Whole m) (held : Every ReadingHeld (m .readings)) 
   unfolding H
   hours-there = le-leb 1 (H m) (heading-facts (m .heading) (w .head) .hours .0)
 
-  reading-passes : (done : List Reading) (x : Reading) (later : List Reading) → m .readings ≡ done ++ (x ∷ later) → (n : ℕ) → Passes (to-readings done) n (reading x)
-  unfolding isEnd due H P checks first andThen unless
-  reading-passes done x later e n =
-      let right : ReadingRight (H m) (P m) x = there (ReadingRight (H m) (P m)) done x later (subst (Every (ReadingRight (H m) (P m))) e (w .readings)) in
-      let whose : ltb (x .party) (P m) ≡ true = lt-ltb (x .party) (P m) (right .0) in
-      let rising : ltb (x .a) (x .b) ≡ true = lt-ltb (x .a) (x .b) (right .1) in
-      let early : leb (x .b) (H m) ≡ true = le-leb (x .b) (H m) (right .2) in
-      let small : leb (x .e) greatestEnergy ≡ true = le-leb (x .e) greatestEnergy (right .3) in
-      record {
-        not-the-end = refl;
-        is-due = rw (hours-there, eq-eqb (length (m .prices)) (H m) (w .all-prices));
-        none-refuses = accepted-exactly (checks (inFile (to-readings done) n) (reading x)) .0 (rw (whose, rising, early, small));
-        held = there ReadingHeld done x later (subst (Every ReadingHeld) e held);
-      }
+  module _ (priced : Priced asked m) where
+    reading-passes : (done : List Reading) (x : Reading) (later : List Reading) → m .readings ≡ done ++ (x ∷ later) → (n : ℕ) → Passes asked (to-readings done) n (reading x)
+    unfolding isEnd due hoursThere pricesThere allPriced pricedFor H P checks first andThen unless
+    reading-passes done x later e n =
+        let right : ReadingRight (H m) (P m) x = there (ReadingRight (H m) (P m)) done x later (subst (Every (ReadingRight (H m) (P m))) e (w .readings)) in
+        let whose : ltb (x .party) (P m) ≡ true = lt-ltb (x .party) (P m) (right .0) in
+        let rising : ltb (x .a) (x .b) ≡ true = lt-ltb (x .a) (x .b) (right .1) in
+        let early : leb (x .b) (H m) ≡ true = le-leb (x .b) (H m) (right .2) in
+        let small : leb (x .e) greatestEnergy ≡ true = le-leb (x .e) greatestEnergy (right .3) in
+        record {
+          not-the-end = refl;
+          is-due = rw (hours-there, prices-read);
+          is-priced = priced-so-far asked m done priced;
+          none-refuses = accepted-exactly (checks (inFile (to-readings done) n) (reading x)) .0 (rw (whose, rising, early, small));
+          held = there ReadingHeld done x later (subst (Every ReadingHeld) e held);
+        }
 
-  sections : Through (to-parties []) (numbered asParty 0 (m .parties) ++ from-fixed m) m
-  unfolding with
-  sections =
-      then-through (section asParty to-parties (m .parties) (λ done n x. refl) party-passes (m .parties) [] refl)
-      (then-through (section fixedHour to-fixed (m .fixed) (λ done n x. refl) fixed-passes (m .fixed) [] refl)
-      (then-through (section refixedHour to-refixed (m .refixed) (λ done n x. refl) refixed-passes (m .refixed) [] refl)
-      (then-through (section price to-prices (m .prices) (λ done n x. refl) price-passes (m .prices) [] refl)
-      (section asReading to-readings (m .readings) (λ done n x. refl) reading-passes (m .readings) [] refl))))
+    sections : Through asked (to-parties []) (numbered asParty 0 (m .parties) ++ from-fixed m) m
+    unfolding with
+    sections =
+        then-through (section asked asParty to-parties (m .parties) (λ done n x. refl) party-passes (m .parties) [] refl)
+        (then-through (section asked fixedHour to-fixed (m .fixed) (λ done n x. refl) fixed-passes (m .fixed) [] refl)
+        (then-through (section asked refixedHour to-refixed (m .refixed) (λ done n x. refl) refixed-passes (m .refixed) [] refl)
+        (then-through (section asked price to-prices (m .prices) (λ done n x. refl) price-passes (m .prices) [] refl)
+        (section asked asReading to-readings (m .readings) (λ done n x. refl) reading-passes (m .readings) [] refl))))
 
-  pub whole-month-passes : Through nothingYet (recordsOf m) m
-  unfolding recordsOf withAll with nothingYet
-  whole-month-passes = record { pass = λ n. (heading-passes n, sections .pass (suc n)); gives = sections .gives }
+    pub whole-month-passes : Through asked nothingYet (recordsOf m) m
+    unfolding recordsOf withAll with nothingYet
+    whole-month-passes = record { pass = λ n. (heading-passes n, sections .pass (suc n)); gives = sections .gives }

@@ -17,7 +17,7 @@ use Rattle.rules.specs.Month.{partyAt, monthDistributed, monthPeriodised
 use Rattle.rules.specs.MonthFile.{MonthFile, P, readMonth}
 use Rattle.rules.specs.Record.{Party, ownBrp, brpGln, brpGlnOf}
 use Rattle.rules.specs.Refusals.{Verdict, accepted, refused, Answer, given, refusal}
-use Rattle.rules.specs.Setting.{Setting}
+use Rattle.rules.specs.Setting.{Setting, needed}
 use Rattle.rules.specs.Statement.{digitsOfWidth, partyLine, brpLine, lineForEach, perParty, perBrp, linesPer, statementLines, judgedStatement, answeredStatement, statementPer}
 use Rattle.rules.specs.Statement.{headingLine, totalLine, joined}
 use Rattle.rules.specs.WellFormed.{Every, PartyRight, Below, Rising, Whole}
@@ -136,18 +136,18 @@ module _ (m : MonthFile) (whole : Whole m) (own : Every (λ (p : Party). brpGln 
 
 -- OF A FILE: if it is read as a month whose parties have their BRPs' GLNs
 pub own-brps :
-    (setting : Setting) (file : List ℕ) → ((m : MonthFile) → readMonth setting file ≡ given m → Every (λ (p : Party). brpGln p ≡ p .gln) (m .parties))
+    (setting : Setting) (file : List ℕ) → ((m : MonthFile) → readMonth needed file ≡ given m → Every (λ (p : Party). brpGln p ≡ p .gln) (m .parties))
     → statementPer perBrp setting file ≡ statementPer perParty setting file
 unfolding statementPer answeredStatement
-own-brps setting file own = go (readMonth setting file) refl
+own-brps setting file own = go (readMonth needed file) refl
   where
-    go : (a : Answer MonthFile) → readMonth setting file ≡ a → answeredStatement perBrp setting a ≡ answeredStatement perParty setting a
-    go (given m) e = own-judged m (what-is-read-is-whole setting file e) (own m e) (monthVerdict setting m)
+    go : (a : Answer MonthFile) → readMonth needed file ≡ a → answeredStatement perBrp setting a ≡ answeredStatement perParty setting a
+    go (given m) e = own-judged m (what-is-read-is-whole needed file e) (own m e) (monthVerdict setting m)
     go (refusal r place) e = refl
 
 -- OF A FILE OF 02 RECORDS
 pub own-brps-of-02 :
-    (setting : Setting) (file : List ℕ) → ((m : MonthFile) → readMonth setting file ≡ given m → Every (λ (p : Party). p .brp ≡ ownBrp) (m .parties))
+    (setting : Setting) (file : List ℕ) → ((m : MonthFile) → readMonth needed file ≡ given m → Every (λ (p : Party). p .brp ≡ ownBrp) (m .parties))
     → statementPer perBrp setting file ≡ statementPer perParty setting file
 own-brps-of-02 setting file own =
     own-brps setting file

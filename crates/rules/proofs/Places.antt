@@ -8,7 +8,7 @@ use mathlib.Core.Path.{_≡_, refl, sym, _∙_, ap, subst}
 use Prim.Native.Nat.{ℕ, zero, suc, _+_, _-_, _*_, _≤_, _<_}
 use native.Mathlib.Nat.{eq-zero-or-pos, eq-or-lt-of-le}
 use native.Mathlib.Omega.{arith}
-use borrow.Author.Tests.{ltb-true, leb-true, eqb-true}
+use borrow.Author.Tests.{ltb-true, leb-true, eqb-true, eq-eqb}
 use lib.Dec.{eqb, leb, ltb}
 use lib.IntN.{ℤ}
 use lib.ListN.{length, getD, drop, length-append, length-drop, List·getD-append}
@@ -19,10 +19,10 @@ use Rattle.rules.specs.MonthFile.{MonthFile, nothingYet, H, P, due, alik
 use Rattle.rules.specs.Record.{Heading, Party, Reading, Record, heading, party, fixedHour, reading, price, refixedHour, end, bodyLength, known, fieldWidths}
 use Rattle.rules.specs.Record.{cutInto, kindAt, recordAt, inFile, headingInRange, checks}
 use Rattle.rules.specs.Refusals.{given, first}
-use Rattle.rules.specs.Setting.{Setting}
+use Rattle.rules.specs.Setting.{Prices}
 use Rattle.rules.specs.WellFormed.{Every, asParty, asReading}
 use Rattle.rules.specs.Words.{at}
-use Rattle.rules.proofs.Whole.{Counts, Sound, before-the-heading, both-pass, heading-facts, step, nothing-is-sound, went-on, closed-gives, of-the-right-length}
+use Rattle.rules.proofs.Whole.{Counts, Sound, price-due, all-there, before-the-heading, both-pass, heading-facts, step, nothing-is-sound, went-on, closed-gives, of-the-right-length}
 use Rattle.rules.proofs.Refusals.{accepted-exactly, unless-exactly, given-not-refusal}
 pub use Rattle.rules.proofs.EachKind.{lengthOf, partyLength, readingLength, length-of-record}
 
@@ -84,8 +84,8 @@ refixedOffset parties hours k = 10 + allSizes party parties + 36 * hours + 36 * 
 abbrev pub priceOffset : List Party → ℕ → ℕ → ℕ → ℕ
 priceOffset parties hours refixed k = 10 + allSizes party parties + 36 * hours + 36 * refixed + 7 * k
 
-abbrev pub readingOffset : List Party → ℕ → ℕ → List Reading → ℕ → ℕ
-readingOffset parties hours refixed readings k = 10 + allSizes party parties + 36 * hours + 36 * refixed + 7 * hours + sizesBefore reading readings k
+abbrev pub readingOffset : List Party → ℕ → ℕ → ℕ → List Reading → ℕ → ℕ
+readingOffset parties hours refixed prices readings k = 10 + allSizes party parties + 36 * hours + 36 * refixed + 7 * prices + sizesBefore reading readings k
 
 no-sizes : {A : Type 0} (make : A → Record) (l : List A) → length l ≡ 0 → allSizes make l ≡ 0
 unfolding sizesBefore
@@ -131,7 +131,7 @@ pub record Placed (file : List ℕ) (m : MonthFile) (offset : ℕ) : Type 0 wher
   pub fixed : Row file (fixedOffset (m .parties)) fixedHour (m .fixed)
   pub refixed : Row file (refixedOffset (m .parties) (H m)) refixedHour (m .refixed)
   pub prices : Row file (priceOffset (m .parties) (H m) (length (m .refixed))) price (m .prices)
-  pub readings : Row file (readingOffset (m .parties) (H m) (length (m .refixed)) (m .readings)) asReading (m .readings)
+  pub readings : Row file (readingOffset (m .parties) (H m) (length (m .refixed)) (length (m .prices)) (m .readings)) asReading (m .readings)
 
 nothing-is-placed : (file : List ℕ) → Placed file nothingYet 0
 unfolding nothingYet H P
@@ -144,7 +144,7 @@ nothing-is-placed file =
       fixed = row-none file (fixedOffset []) fixedHour [] refl;
       refixed = row-none file (refixedOffset [] 0) refixedHour [] refl;
       prices = row-none file (priceOffset [] 0 0) price [] refl;
-      readings = row-none file (readingOffset [] 0 0 []) asReading [] refl;
+      readings = row-none file (readingOffset [] 0 0 0 []) asReading [] refl;
     }
 
 one-longer : {A : Type 0} (l : List A) (x : A) → length (l ++ (x ∷ [])) ≡ length l + 1
@@ -163,21 +163,16 @@ module _ {h p a f r q g : ℕ} (c : Counts h p a f r q g) where
       let some : 0 < h = some-hours (omega arith) in
       let no-fixed : f ≡ 0 = none-of f (λ x. omega (arith, c .parties-first x)) in
       let no-prices : q ≡ 0 = none-of q (λ x. omega (arith, c .fixed-priced x)) in
-      (some, no-fixed, none-of r (λ x. omega (arith, c .fixed-first x)), no-prices, none-of g (λ x. omega (arith, c .prices-first x .0)))
+      (some, no-fixed, none-of r (λ x. omega (arith, c .fixed-first x)), no-prices, none-of g (λ x. omega (arith, c .hours-first x .1)))
 
   pub fixed-due : f < h → (r ≡ 0) × (q ≡ 0) × (g ≡ 0)
   fixed-due b =
       let no-prices : q ≡ 0 = none-of q (λ x. omega (arith, c .fixed-priced x)) in
-      (none-of r (λ x. omega (arith, c .fixed-first x)), no-prices, none-of g (λ x. omega (arith, c .prices-first x .0)))
+      (none-of r (λ x. omega (arith, c .fixed-first x)), no-prices, none-of g (λ x. omega (arith, c .hours-first x .1)))
 
   all-parties : f ≡ h → 0 < h → a ≡ p
   all-parties e b = c .parties-first (omega arith)
 
-  pub no-readings : q < h → g ≡ 0
-  no-readings b = none-of g (λ x. omega (arith, c .prices-first x .0))
-
-  all-fixed : q ≡ h → 0 < h → f ≡ h
-  all-fixed e b = c .fixed-priced (omega arith)
 
 -- One record more, of each kind.
 module _ (file : List ℕ) (m : MonthFile) (s : Sound m) (offset : ℕ) (p : Placed file m offset) where
@@ -194,7 +189,7 @@ module _ (file : List ℕ) (m : MonthFile) (s : Sound m) (offset : ℕ) (p : Pla
         fixed = row-none file (fixedOffset (m .parties)) fixedHour (m .fixed) (none .1);
         refixed = row-none file (refixedOffset (m .parties) (h .hours)) refixedHour (m .refixed) (none .2);
         prices = row-none file (priceOffset (m .parties) (h .hours) (length (m .refixed))) price (m .prices) (none .3);
-        readings = row-none file (readingOffset (m .parties) (h .hours) (length (m .refixed)) (m .readings)) asReading (m .readings) (none .4);
+        readings = row-none file (readingOffset (m .parties) (h .hours) (length (m .refixed)) (length (m .prices)) (m .readings)) asReading (m .readings) (none .4);
       }
 
   place-party : (x : Party) → due m (party x) ≡ true → Standing file offset (party x) → Placed file (with m (party x)) (offset + (1 + lengthOf (party x)))
@@ -216,7 +211,7 @@ module _ (file : List ℕ) (m : MonthFile) (s : Sound m) (offset : ℕ) (p : Pla
         fixed = row-none file (fixedOffset more) fixedHour (m .fixed) (none .1);
         refixed = row-none file (refixedOffset more (H m)) refixedHour (m .refixed) (none .2);
         prices = row-none file (priceOffset more (H m) (length (m .refixed))) price (m .prices) (none .3);
-        readings = row-none file (readingOffset more (H m) (length (m .refixed)) (m .readings)) asReading (m .readings) (none .4);
+        readings = row-none file (readingOffset more (H m) (length (m .refixed)) (length (m .prices)) (m .readings)) asReading (m .readings) (none .4);
       }
 
   place-fixed : (hour : ℕ) (x : Flows) → due m (fixedHour hour x) ≡ true → Standing file offset (fixedHour hour x) → Placed file (with m (fixedHour hour x)) (offset + 36)
@@ -242,13 +237,14 @@ module _ (file : List ℕ) (m : MonthFile) (s : Sound m) (offset : ℕ) (p : Pla
   place-refixed : (hour : ℕ) (x : Flows) → due m (refixedHour hour x) ≡ true → Standing file offset (refixedHour hour x) → Placed file (with m (refixedHour hour x)) (offset + 36)
   unfolding due with H P
   place-refixed hour x d here =
-      let outer = both-pass (eqb (length (m .fixed)) (H m) && ltb (length (m .refixed)) (H m) && eqb (length (m .prices)) 0) (eqb hour (length (m .refixed))) d in
-      let middle = both-pass (eqb (length (m .fixed)) (H m) && ltb (length (m .refixed)) (H m)) (eqb (length (m .prices)) 0) (outer .0) in
+      let outer = both-pass (eqb (length (m .fixed)) (H m) && ltb (length (m .refixed)) (H m) && eqb (length (m .prices)) 0 && eqb (length (m .readings)) 0) (eqb hour (length (m .refixed))) d in
+      let last = both-pass (eqb (length (m .fixed)) (H m) && ltb (length (m .refixed)) (H m) && eqb (length (m .prices)) 0) (eqb (length (m .readings)) 0) (outer .0) in
+      let middle = both-pass (eqb (length (m .fixed)) (H m) && ltb (length (m .refixed)) (H m)) (eqb (length (m .prices)) 0) (last .0) in
       let inner = both-pass (eqb (length (m .fixed)) (H m)) (ltb (length (m .refixed)) (H m)) (middle .0) in
       let all : length (m .fixed) ≡ H m = eqb-true (length (m .fixed)) (H m) (inner .0) in
       let more : length (m .refixed) < H m = ltb-true (length (m .refixed)) (H m) (inner .1) in
       let no-prices : length (m .prices) ≡ 0 = eqb-true (length (m .prices)) 0 (middle .1) in
-      let no-more : length (m .readings) ≡ 0 = no-readings (s .counts) (omega arith) in
+      let no-more : length (m .readings) ≡ 0 = eqb-true (length (m .readings)) 0 (last .1) in
       let everyone : length (m .parties) ≡ P m = all-parties (s .counts) all (omega arith) in
       let there : offset ≡ refixedOffset (m .parties) (H m) (length (m .refixed)) = omega (arith, p .so-far (omega arith), no-sizes reading (m .readings) no-more) in
       record {
@@ -259,18 +255,16 @@ module _ (file : List ℕ) (m : MonthFile) (s : Sound m) (offset : ℕ) (p : Pla
         fixed = p .fixed;
         refixed = row-more file (refixedOffset (m .parties) (H m)) refixedHour (m .refixed) x (p .refixed) (at-its-place there refixedHour (outer .1) here);
         prices = row-none file (priceOffset (m .parties) (H m) (length (m .refixed ++ (x ∷ [])))) price (m .prices) no-prices;
-        readings = row-none file (readingOffset (m .parties) (H m) (length (m .refixed ++ (x ∷ []))) (m .readings)) asReading (m .readings) no-more;
+        readings = row-none file (readingOffset (m .parties) (H m) (length (m .refixed ++ (x ∷ []))) (length (m .prices)) (m .readings)) asReading (m .readings) no-more;
       }
 
   place-price : (hour : ℕ) (x : ℤ) → due m (price hour x) ≡ true → Standing file offset (price hour x) → Placed file (with m (price hour x)) (offset + 7)
   unfolding due with H P
   place-price hour x d here =
-      let outer = both-pass (eqb (length (m .fixed)) (H m) && (eqb (length (m .refixed)) 0 || eqb (length (m .refixed)) (H m)) && ltb (length (m .prices)) (H m)) (eqb hour (length (m .prices))) d in
-      let middle = both-pass (eqb (length (m .fixed)) (H m) && (eqb (length (m .refixed)) 0 || eqb (length (m .refixed)) (H m))) (ltb (length (m .prices)) (H m)) (outer .0) in
-      let inner = both-pass (eqb (length (m .fixed)) (H m)) (eqb (length (m .refixed)) 0 || eqb (length (m .refixed)) (H m)) (middle .0) in
-      let all : length (m .fixed) ≡ H m = eqb-true (length (m .fixed)) (H m) (inner .0) in
-      let more : length (m .prices) < H m = ltb-true (length (m .prices)) (H m) (middle .1) in
-      let no-more : length (m .readings) ≡ 0 = no-readings (s .counts) more in
+      let is-due = price-due m hour x d in
+      let all : length (m .fixed) ≡ H m = is-due .all-fixed in
+      let more : length (m .prices) < H m = is-due .more in
+      let no-more : length (m .readings) ≡ 0 = is-due .no-readings in
       let everyone : length (m .parties) ≡ P m = all-parties (s .counts) all (omega arith) in
       let there : offset ≡ priceOffset (m .parties) (H m) (length (m .refixed)) (length (m .prices)) = omega (arith, p .so-far (omega arith), no-sizes reading (m .readings) no-more) in
       record {
@@ -280,21 +274,20 @@ module _ (file : List ℕ) (m : MonthFile) (s : Sound m) (offset : ℕ) (p : Pla
         parties = p .parties;
         fixed = p .fixed;
         refixed = p .refixed;
-        prices = row-more file (priceOffset (m .parties) (H m) (length (m .refixed))) price (m .prices) x (p .prices) (at-its-place there price (outer .1) here);
-        readings = p .readings;
+        prices = row-more file (priceOffset (m .parties) (H m) (length (m .refixed))) price (m .prices) x (p .prices) (at-its-place there price (eq-eqb hour (length (m .prices)) (is-due .in-turn)) here);
+        readings = row-none file (readingOffset (m .parties) (H m) (length (m .refixed)) (length (m .prices ++ (x ∷ []))) (m .readings)) asReading (m .readings) no-more;
       }
 
   place-reading : (x : Reading) → due m (reading x) ≡ true → Standing file offset (reading x) → Placed file (with m (reading x)) (offset + (1 + lengthOf (reading x)))
   unfolding due with H P
   place-reading x d here =
-      let tests = both-pass (leb 1 (H m)) (eqb (length (m .prices)) (H m)) d in
-      let some : 1 ≤ H m = leb-true 1 (H m) (tests .0) in
-      let priced : length (m .prices) ≡ H m = eqb-true (length (m .prices)) (H m) (tests .1) in
-      let all : length (m .fixed) ≡ H m = all-fixed (s .counts) priced some in
+      let there = all-there m s d in
+      let some : 1 ≤ H m = there .0 in
+      let all : length (m .fixed) ≡ H m = there .1 in
       let everyone : length (m .parties) ≡ P m = all-parties (s .counts) all some in
-      let there : offset ≡ readingOffset (m .parties) (H m) (length (m .refixed)) (m .readings) (length (m .readings)) = omega (arith, p .so-far some) in
+      let here-is : offset ≡ readingOffset (m .parties) (H m) (length (m .refixed)) (length (m .prices)) (m .readings) (length (m .readings)) = omega (arith, p .so-far some) in
       let moved : (k : ℕ) → k ≤ length (m .readings)
-      → readingOffset (m .parties) (H m) (length (m .refixed)) (m .readings) k ≡ readingOffset (m .parties) (H m) (length (m .refixed)) (m .readings ++ (x ∷ [])) k =
+      → readingOffset (m .parties) (H m) (length (m .refixed)) (length (m .prices)) (m .readings) k ≡ readingOffset (m .parties) (H m) (length (m .refixed)) (length (m .prices)) (m .readings ++ (x ∷ [])) k =
       λ k b. omega (arith, same-sizes reading (m .readings) x k b) in
       record {
         at-start = λ e. absurd (omega arith);
@@ -305,9 +298,9 @@ module _ (file : List ℕ) (m : MonthFile) (s : Sound m) (offset : ℕ) (p : Pla
         refixed = p .refixed;
         prices = p .prices;
         readings =
-            row-more file (readingOffset (m .parties) (H m) (length (m .refixed)) (m .readings ++ (x ∷ []))) asReading (m .readings) x
+            row-more file (readingOffset (m .parties) (H m) (length (m .refixed)) (length (m .prices)) (m .readings ++ (x ∷ []))) asReading (m .readings) x
             (row-same file asReading (m .readings) (λ k b. moved k (omega arith)) (p .readings))
-            (subst (λ (o : ℕ). Standing file o (reading x)) (there ∙ moved (length (m .readings)) (omega arith)) here);
+            (subst (λ (o : ℕ). Standing file o (reading x)) (here-is ∙ moved (length (m .readings)) (omega arith)) here);
       }
 
 -- a record of any kind but the end
@@ -353,30 +346,30 @@ end-or-not r = go (isEnd r) refl
     go true e = inl e
     go false e = inr e
 
-read-on-placed : (setting : Setting) (file : List ℕ) (more : ℕ) (bytes : List ℕ) (n : ℕ) (m : MonthFile) (offset : ℕ) → drop offset file ≡ bytes → Sound m
-    → Placed file m offset → {m′ : MonthFile} → readOn setting more bytes n m ≡ given m′ → (o : ℕ) × Placed file m′ o
+read-on-placed : (prices : Prices) (file : List ℕ) (more : ℕ) (bytes : List ℕ) (n : ℕ) (m : MonthFile) (offset : ℕ) → drop offset file ≡ bytes → Sound m
+    → Placed file m offset → {m′ : MonthFile} → readOn prices more bytes n m ≡ given m′ → (o : ℕ) × Placed file m′ o
 unfolding readOn recordChecks kindAt at
-read-on-placed setting file zero bytes n m offset here s p e = absurd (given-not-refusal e)
-read-on-placed setting file (suc more) [] n m offset here s p e = absurd (given-not-refusal e)
-read-on-placed setting file (suc more) (kind ∷ body) n m offset here s p {m′} e =
+read-on-placed prices file zero bytes n m offset here s p e = absurd (given-not-refusal e)
+read-on-placed prices file (suc more) [] n m offset here s p e = absurd (given-not-refusal e)
+read-on-placed prices file (suc more) (kind ∷ body) n m offset here s p {m′} e =
     let r = recordAt (kind ∷ body) in
-    let on = went-on (first (recordChecks setting m n (kind ∷ body))) _ e in
-    let passed = accepted-exactly (recordChecks setting m n (kind ∷ body)) .0 (on .0) in
+    let on = went-on (first (recordChecks prices m n (kind ∷ body))) _ e in
+    let passed = accepted-exactly (recordChecks prices m n (kind ∷ body)) .0 (on .0) in
     let k : known kind ≡ true = unless-exactly (known kind) _ _ .0 (passed .0) in
     let b : 1 + bodyLength kind ≤ length (kind ∷ body) = leb-true (1 + bodyLength kind) (length (kind ∷ body)) (unless-exactly _ _ _ .0 (passed .1 .0)) in
     let d : due m r ≡ true = unless-exactly (due m r) _ _ .0 (passed .1 .1 .0) in
-    let s′ : Sound (with m r) = step m s n r d (passed .1 .1 .1) in
+    let s′ : Sound (with m r) = step m s n r d (passed .1 .1 .1 .1) in
     ⊎-elim
     (λ (z : isEnd r ≡ true).
     let gives : closed m (suc n) (drop (bodyLength kind) body) ≡ given m′ = rw z at (on .1) in
     (offset, subst (λ (x : MonthFile). Placed file x offset) (closed-gives m (suc n) (drop (bodyLength kind) body) gives) p))
     (λ (z : isEnd r ≡ false).
-    let gives : readOn setting more (drop (bodyLength kind) body) (suc n) (with m r) ≡ given m′ = rw z at (on .1) in
-    read-on-placed setting file more (drop (bodyLength kind) body) (suc n) (with m r) (offset + (1 + lengthOf r))
+    let gives : readOn prices more (drop (bodyLength kind) body) (suc n) (with m r) ≡ given m′ = rw z at (on .1) in
+    read-on-placed prices file more (drop (bodyLength kind) body) (suc n) (with m r) (offset + (1 + lengthOf r))
     (sym (bytes-after file offset kind body here k)) s′
-    (place file m s offset p n r z d (passed .1 .1 .1) (here-stands file offset kind body here k b)) gives)
+    (place file m s offset p n r z d (passed .1 .1 .1 .1) (here-stands file offset kind body here k b)) gives)
     (end-or-not r)
 
 -- THE RECORDS OF A FILE THAT IS READ STAND AT THEIR PLACES.
-pub what-is-read-is-placed : (setting : Setting) (file : List ℕ) {m : MonthFile} → readMonth setting file ≡ given m → (o : ℕ) × Placed file m o
-what-is-read-is-placed setting file e = read-on-placed setting file (length file) file 0 nothingYet 0 refl nothing-is-sound (nothing-is-placed file) (of-the-right-length setting file e .1)
+pub what-is-read-is-placed : (prices : Prices) (file : List ℕ) {m : MonthFile} → readMonth prices file ≡ given m → (o : ℕ) × Placed file m o
+what-is-read-is-placed prices file e = read-on-placed prices file (length file) file 0 nothingYet 0 refl nothing-is-sound (nothing-is-placed file) (of-the-right-length prices file e .1)

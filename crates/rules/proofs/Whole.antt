@@ -16,15 +16,15 @@ use Rattle.rules.specs.Accepted.{NoneRefuses}
 use Rattle.rules.specs.Flows.{Flows, flowsInRange, silentIsZero}
 use Rattle.rules.specs.Gln.{validGln, rises, digitsOnto}
 use Rattle.rules.specs.Limits.{greatestArea, earliestYear, latestYear, monthsOfAYear, mostHours, mostParties, greatestShare, greatestEnergy, greatestPrice, longestFile}
-use Rattle.rules.specs.MonthFile.{MonthFile, nothingYet, H, P, due, afterTheLast, alikeAfter, risesAfter, recordChecks, with, isEnd, closed, onward, readOn, readMonth}
+use Rattle.rules.specs.MonthFile.{MonthFile, nothingYet, H, P, hoursThere, pricesThere, due, allPriced, pricedFor, afterTheLast, alikeAfter, risesAfter, recordChecks, with, isEnd, closed, onward, readOn, readMonth}
 use Rattle.rules.specs.Record.{Heading, Party, Reading, Record, heading, party, fixedHour, reading, price, refixedHour, end, bodyLength, recordAt}
 use Rattle.rules.specs.Record.{brpGln, partyKindOf, inFile, headingInRange, hourInRange, checks}
 use Rattle.rules.specs.Refusals.{fileFault, Verdict, accepted, refused, Answer, given, refusal, first}
 use Rattle.rules.specs.Services.{sameℤ}
-use Rattle.rules.specs.Setting.{Setting}
+use Rattle.rules.specs.Setting.{Prices, needed, optional}
 use Rattle.rules.specs.Words.{within, withinℤ}
 use Rattle.rules.proofs.Refusals.{accepted-exactly, unless-exactly, given-not-refusal}
-pub use Rattle.rules.specs.WellFormed.{Every, PartyRight, FlowsRight, PriceRight, ReadingRight, HeadingRight, Below, Rising, SameKind, OneKind, Whole}
+pub use Rattle.rules.specs.WellFormed.{Every, PartyRight, FlowsRight, PriceRight, ReadingRight, HeadingRight, Below, Rising, SameKind, OneKind, Whole, Priced}
 
 -- Tests: one is passed or not; both are passed; one of them is; two numbers are the same.
 pub true-not-false : _≡_ {A = Bool} true false → ⊥
@@ -159,7 +159,7 @@ pub record Counts (h p a f r q g : ℕ) : Type 0 where
   pub fixed-first : 0 < r → f ≡ h
   pub fixed-priced : 0 < q → f ≡ h
   pub refixed-priced : 0 < q → 0 < r → r ≡ h
-  pub prices-first : 0 < g → (q ≡ h) × (0 < h)
+  pub hours-first : 0 < g → (0 < h) × (f ≡ h) × ((r ≡ 0) ⊎ (r ≡ h)) × ((q ≡ 0) ⊎ (q ≡ h))
   pub headed : h ≡ 0 → p ≡ 0
 
 module _ {h p a f r q g : ℕ} (c : Counts h p a f r q g) where
@@ -169,7 +169,7 @@ module _ {h p a f r q g : ℕ} (c : Counts h p a f r q g) where
     omega (arith, c .fixed),
     omega (arith, c .refixed),
     omega (arith, c .prices),
-    ⊎-elim (λ (e : g ≡ 0). e) (λ (b : 0 < g). absurd (omega (arith, c .prices-first b .1))) (eq-zero-or-pos g),
+    ⊎-elim (λ (e : g ≡ 0). e) (λ (b : 0 < g). absurd (omega (arith, c .hours-first b .0))) (eq-zero-or-pos g),
   )
 
   one-party : a < p → Counts h p (suc a) f r q g
@@ -183,7 +183,7 @@ module _ {h p a f r q g : ℕ} (c : Counts h p a f r q g) where
         fixed-first = c .fixed-first;
         fixed-priced = c .fixed-priced;
         refixed-priced = c .refixed-priced;
-        prices-first = c .prices-first;
+        hours-first = c .hours-first;
         headed = c .headed;
       }
 
@@ -198,12 +198,12 @@ module _ {h p a f r q g : ℕ} (c : Counts h p a f r q g) where
         fixed-first = λ x. absurd (omega (arith, c .fixed-first x));
         fixed-priced = λ x. absurd (omega (arith, c .fixed-priced x));
         refixed-priced = c .refixed-priced;
-        prices-first = c .prices-first;
+        hours-first = λ x. absurd (omega (arith, c .hours-first x .1));
         headed = c .headed;
       }
 
-  one-refixed : f ≡ h → r < h → q ≡ 0 → Counts h p a f (suc r) q g
-  one-refixed e b z =
+  one-refixed : f ≡ h → r < h → q ≡ 0 → g ≡ 0 → Counts h p a f (suc r) q g
+  one-refixed e b z no-readings =
       record {
         parties = c .parties;
         fixed = c .fixed;
@@ -213,12 +213,12 @@ module _ {h p a f r q g : ℕ} (c : Counts h p a f r q g) where
         fixed-first = λ x. e;
         fixed-priced = c .fixed-priced;
         refixed-priced = λ x y. absurd (omega arith);
-        prices-first = c .prices-first;
+        hours-first = λ x. absurd (omega arith);
         headed = c .headed;
       }
 
-  one-price : f ≡ h → (r ≡ 0) ⊎ (r ≡ h) → q < h → Counts h p a f r (suc q) g
-  one-price e none-or-all b =
+  one-price : f ≡ h → (r ≡ 0) ⊎ (r ≡ h) → q < h → g ≡ 0 → Counts h p a f r (suc q) g
+  one-price e none-or-all b no-readings =
       record {
         parties = c .parties;
         fixed = c .fixed;
@@ -228,12 +228,12 @@ module _ {h p a f r q g : ℕ} (c : Counts h p a f r q g) where
         fixed-first = c .fixed-first;
         fixed-priced = λ x. e;
         refixed-priced = λ x y. ⊎-elim (λ (z : r ≡ 0). absurd (omega arith)) (λ (w : r ≡ h). w) none-or-all;
-        prices-first = λ x. absurd (omega (arith, c .prices-first x .0));
+        hours-first = λ x. absurd (omega arith);
         headed = c .headed;
       }
 
-  one-reading : q ≡ h → 0 < h → Counts h p a f r q (suc g)
-  one-reading e b =
+  one-reading : (0 < h) × (f ≡ h) × ((r ≡ 0) ⊎ (r ≡ h)) × ((q ≡ 0) ⊎ (q ≡ h)) → Counts h p a f r q (suc g)
+  one-reading there =
       record {
         parties = c .parties;
         fixed = c .fixed;
@@ -243,7 +243,7 @@ module _ {h p a f r q g : ℕ} (c : Counts h p a f r q g) where
         fixed-first = c .fixed-first;
         fixed-priced = c .fixed-priced;
         refixed-priced = c .refixed-priced;
-        prices-first = λ x. (e, b);
+        hours-first = λ x. there;
         headed = c .headed;
       }
 
@@ -258,7 +258,7 @@ none-counted {h} {p} b =
       fixed-first = λ x. absurd (omega arith);
       fixed-priced = λ x. absurd (omega arith);
       refixed-priced = λ x y. absurd (omega arith);
-      prices-first = λ x. absurd (omega arith);
+      hours-first = λ x. absurd (omega arith);
       headed = λ z. absurd (omega arith);
     }
 
@@ -273,7 +273,7 @@ nothing-counted =
       fixed-first = λ x. refl;
       fixed-priced = λ x. refl;
       refixed-priced = λ x y. refl;
-      prices-first = λ x. absurd (omega arith);
+      hours-first = λ x. absurd (omega arith);
       headed = λ z. refl;
     }
 
@@ -292,6 +292,58 @@ pub nothing-is-sound : Sound nothingYet
 unfolding nothingYet H P
 nothing-is-sound =
     record { counts = nothing-counted; head = λ x. absurd (omega arith); parties = tt; rising = tt; one-kind = tt; fixed = tt; refixed = tt; prices = tt; readings = tt }
+
+-- WHAT IS THERE WHERE A PRICE, A READING OR THE END IS DUE
+none-or-all : (h n : ℕ) → eqb n 0 || eqb n h ≡ true → (n ≡ 0) ⊎ (n ≡ h)
+none-or-all h n e = ⊎-elim (λ t. inl (eqb-true n 0 t)) (λ t. inr (eqb-true n h t)) (one-passes (eqb n 0) (eqb n h) e)
+
+hours-are-there : (m : MonthFile) → hoursThere m ≡ true → (length (m .fixed) ≡ H m) × ((length (m .refixed) ≡ 0) ⊎ (length (m .refixed) ≡ H m))
+unfolding hoursThere
+hours-are-there m d =
+    let tests = both-pass (eqb (length (m .fixed)) (H m)) (eqb (length (m .refixed)) 0 || eqb (length (m .refixed)) (H m)) d in
+    (eqb-true (length (m .fixed)) (H m) (tests .0), none-or-all (H m) (length (m .refixed)) (tests .1))
+
+pub record PriceDue (m : MonthFile) (hour : ℕ) : Type 0 where
+  pub all-fixed : length (m .fixed) ≡ H m
+  pub refixed : (length (m .refixed) ≡ 0) ⊎ (length (m .refixed) ≡ H m)
+  pub more : length (m .prices) < H m
+  pub no-readings : length (m .readings) ≡ 0
+  pub in-turn : hour ≡ length (m .prices)
+
+pub price-due : (m : MonthFile) (hour : ℕ) (z : ℤ) → due m (price hour z) ≡ true → PriceDue m hour
+unfolding due
+price-due m hour z d =
+    let last = both-pass (hoursThere m && ltb (length (m .prices)) (H m) && eqb (length (m .readings)) 0) (eqb hour (length (m .prices))) d in
+    let outer = both-pass (hoursThere m && ltb (length (m .prices)) (H m)) (eqb (length (m .readings)) 0) (last .0) in
+    let inner = both-pass (hoursThere m) (ltb (length (m .prices)) (H m)) (outer .0) in
+    let hours = hours-are-there m (inner .0) in
+    record {
+      all-fixed = hours .0;
+      refixed = hours .1;
+      more = ltb-true (length (m .prices)) (H m) (inner .1);
+      no-readings = eqb-true (length (m .readings)) 0 (outer .1);
+      in-turn = eqb-true hour (length (m .prices)) (last .1);
+    }
+
+pub all-there :
+    (m : MonthFile) → Sound m → leb 1 (H m) && pricesThere m ≡ true
+    → (0 < H m) × (length (m .fixed) ≡ H m) × ((length (m .refixed) ≡ 0) ⊎ (length (m .refixed) ≡ H m)) × ((length (m .prices) ≡ 0) ⊎ (length (m .prices) ≡ H m))
+unfolding pricesThere
+all-there m s d =
+    let tests = both-pass (leb 1 (H m)) (pricesThere m) d in
+    let some : 1 ≤ H m = leb-true 1 (H m) (tests .0) in
+    let priced = eqb (length (m .prices)) (H m) in
+    let unpriced = eqb (length (m .prices)) 0 && hoursThere m in
+    ⊎-elim
+    (λ (t : priced ≡ true).
+    let all : length (m .prices) ≡ H m = eqb-true (length (m .prices)) (H m) t in
+    let one : 0 < length (m .prices) = omega arith in
+    (some, s .counts .fixed-priced one, ⊎-elim (λ z. inl z) (λ b. inr (s .counts .refixed-priced one b)) (eq-zero-or-pos (length (m .refixed))), inr all))
+    (λ (t : unpriced ≡ true).
+    let none = both-pass (eqb (length (m .prices)) 0) (hoursThere m) t in
+    let hours = hours-are-there m (none .1) in
+    (some, hours .0, hours .1, inl (eqb-true (length (m .prices)) 0 (none .0))))
+    (one-passes priced unpriced (tests .1))
 
 -- One record that is due and passes its checks keeps the month sound.
 module _ (m : MonthFile) (s : Sound m) (n : ℕ) where
@@ -361,13 +413,14 @@ module _ (m : MonthFile) (s : Sound m) (n : ℕ) where
   with-refixed : (hour : ℕ) (f : Flows) → due m (refixedHour hour f) ≡ true → Passes (refixedHour hour f) → Sound (with m (refixedHour hour f))
   unfolding due with H P checks
   with-refixed hour f d c =
-      let outer = both-pass _ (eqb (length (m .prices)) 0) (both-pass _ (eqb hour (length (m .refixed))) d .0) in
+      let last = both-pass _ (eqb (length (m .readings)) 0) (both-pass _ (eqb hour (length (m .refixed))) d .0) in
+      let outer = both-pass _ (eqb (length (m .prices)) 0) (last .0) in
       let inner = both-pass (eqb (length (m .fixed)) (H m)) (ltb (length (m .refixed)) (H m)) (outer .0) in
       let all : length (m .fixed) ≡ H m = eqb-true (length (m .fixed)) (H m) (inner .0) in
       let more : length (m .refixed) < H m = ltb-true (length (m .refixed)) (H m) (inner .1) in
       let right : FlowsRight f = flows-right hour f (unless-exactly (hourInRange (H m) hour f) _ _ .0 (c .0)) in
       record {
-        counts = rw (one-more (m .refixed) f) (one-refixed (s .counts) all more (eqb-true (length (m .prices)) 0 (outer .1)));
+        counts = rw (one-more (m .refixed) f) (one-refixed (s .counts) all more (eqb-true (length (m .prices)) 0 (outer .1)) (eqb-true (length (m .readings)) 0 (last .1)));
         head = s .head;
         parties = s .parties;
         rising = s .rising;
@@ -378,23 +431,14 @@ module _ (m : MonthFile) (s : Sound m) (n : ℕ) where
         readings = s .readings;
       }
 
-  none-or-all : eqb (length (m .refixed)) 0 || eqb (length (m .refixed)) (H m) ≡ true → (length (m .refixed) ≡ 0) ⊎ (length (m .refixed) ≡ H m)
-  none-or-all e =
-      ⊎-elim (λ t. inl (eqb-true (length (m .refixed)) 0 t)) (λ t. inr (eqb-true (length (m .refixed)) (H m) t))
-      (one-passes (eqb (length (m .refixed)) 0) (eqb (length (m .refixed)) (H m)) e)
-
   with-price : (hour : ℕ) (z : ℤ) → due m (price hour z) ≡ true → Passes (price hour z) → Sound (with m (price hour z))
   unfolding due with H P checks
   with-price hour z d c =
-      let outer = both-pass _ (ltb (length (m .prices)) (H m)) (both-pass _ (eqb hour (length (m .prices))) d .0) in
-      let refixed = eqb (length (m .refixed)) 0 || eqb (length (m .refixed)) (H m) in
-      let inner = both-pass (eqb (length (m .fixed)) (H m)) refixed (outer .0) in
-      let all : length (m .fixed) ≡ H m = eqb-true (length (m .fixed)) (H m) (inner .0) in
-      let more : length (m .prices) < H m = ltb-true (length (m .prices)) (H m) (outer .1) in
+      let tests = price-due m hour z d in
       let range = unless-exactly (ltb hour (H m) && withinℤ greatestPrice z) _ _ .0 (c .0) in
       let right : PriceRight z = both-pass (ltb hour (H m)) (withinℤ greatestPrice z) range .1 in
       record {
-        counts = rw (one-more (m .prices) z) (one-price (s .counts) all (none-or-all (inner .1)) more);
+        counts = rw (one-more (m .prices) z) (one-price (s .counts) (tests .all-fixed) (tests .refixed) (tests .more) (tests .no-readings));
         head = s .head;
         parties = s .parties;
         rising = s .rising;
@@ -417,10 +461,8 @@ module _ (m : MonthFile) (s : Sound m) (n : ℕ) where
   with-reading : (r : Reading) → due m (reading r) ≡ true → Passes (reading r) → Sound (with m (reading r))
   unfolding due with H P
   with-reading r d c =
-      let tests = both-pass (leb 1 (H m)) (eqb (length (m .prices)) (H m)) d in
-      let all : length (m .prices) ≡ H m = eqb-true (length (m .prices)) (H m) (tests .1) in
       record {
-        counts = rw (one-more (m .readings) r) (one-reading (s .counts) all (leb-true 1 (H m) (tests .0)));
+        counts = rw (one-more (m .readings) r) (one-reading (s .counts) (all-there m s d));
         head = s .head;
         parties = s .parties;
         rising = s .rising;
@@ -436,18 +478,13 @@ module _ (m : MonthFile) (s : Sound m) where
   at-the-end : (count : ℕ) → due m (end count) ≡ true → Whole m
   unfolding due H P
   at-the-end count d =
-      let tests = both-pass (leb 1 (H m)) (eqb (length (m .prices)) (H m)) d in
-      let some : 1 ≤ H m = leb-true 1 (H m) (tests .0) in
-      let all : length (m .prices) ≡ H m = eqb-true (length (m .prices)) (H m) (tests .1) in
-      let priced : 0 < length (m .prices) = omega arith in
-      let all-fixed : length (m .fixed) ≡ H m = s .counts .fixed-priced priced in
-      let refixed : (length (m .refixed) ≡ 0) ⊎ (length (m .refixed) ≡ H m) = ⊎-elim (λ z. inl z) (λ b. inr (s .counts .refixed-priced priced b)) (eq-zero-or-pos (length (m .refixed))) in
+      let there = all-there m s d in
       record {
-        head = s .head some;
-        all-parties = s .counts .parties-first (omega arith);
-        all-fixed = all-fixed;
-        none-or-all-refixed = refixed;
-        all-prices = all;
+        head = s .head (there .0);
+        all-parties = s .counts .parties-first (omega (arith, there .0, there .1));
+        all-fixed = there .1;
+        none-or-all-refixed = there .2;
+        none-or-all-prices = there .3;
         parties = s .parties;
         rising = s .rising;
         one-kind = s .one-kind;
@@ -456,6 +493,11 @@ module _ (m : MonthFile) (s : Sound m) where
         prices = s .prices;
         readings = s .readings;
       }
+
+priced-end : (prices : Prices) (m : MonthFile) (count : ℕ) → pricedFor prices m (end count) ≡ true → Priced prices m
+unfolding pricedFor allPriced
+priced-end needed m count p = eqb-true (length (m .prices)) (H m) p
+priced-end optional m count p = tt
 
 -- A record of any kind that is due and passes its checks.
 pub step : (m : MonthFile) → Sound m → (n : ℕ) (r : Record) → due m r ≡ true → NoneRefuses (checks (inFile m n) r) → Sound (with m r)
@@ -479,33 +521,36 @@ closed-gives m n [] e = cc
 closed-gives m n (byte ∷ bytes) e = absurd (given-not-refusal e)
 
 -- the last record, or one more and the rest
-past-one : (m : MonthFile) → Sound m → (r : Record) (n : ℕ) (after : List ℕ) (rest : Answer MonthFile) {m′ : MonthFile}
+past-one : (prices : Prices) (m : MonthFile) → Sound m → (r : Record) (n : ℕ) (after : List ℕ) (rest : Answer MonthFile) {m′ : MonthFile}
     → due m r ≡ true
+    → pricedFor prices m r ≡ true
     → Sound (with m r)
-    → (Sound (with m r) → rest ≡ given m′ → Whole m′)
+    → (Sound (with m r) → rest ≡ given m′ → Whole m′ × Priced prices m′)
     → cond (isEnd r) (closed m n after) rest ≡ given m′
-    → Whole m′
+    → Whole m′ × Priced prices m′
 unfolding isEnd
-past-one m s (heading h) n after rest d s′ ih e = ih s′ e
-past-one m s (party p) n after rest d s′ ih e = ih s′ e
-past-one m s (fixedHour hour f) n after rest d s′ ih e = ih s′ e
-past-one m s (reading r) n after rest d s′ ih e = ih s′ e
-past-one m s (price hour z) n after rest d s′ ih e = ih s′ e
-past-one m s (refixedHour hour f) n after rest d s′ ih e = ih s′ e
-past-one m s (end count) n after rest d s′ ih e = subst Whole (closed-gives m n after e) (at-the-end m s count d)
+past-one prices m s (heading h) n after rest d priced s′ ih e = ih s′ e
+past-one prices m s (party p) n after rest d priced s′ ih e = ih s′ e
+past-one prices m s (fixedHour hour f) n after rest d priced s′ ih e = ih s′ e
+past-one prices m s (reading r) n after rest d priced s′ ih e = ih s′ e
+past-one prices m s (price hour z) n after rest d priced s′ ih e = ih s′ e
+past-one prices m s (refixedHour hour f) n after rest d priced s′ ih e = ih s′ e
+past-one prices m s (end count) n after rest d p s′ ih e =
+    subst (λ (x : MonthFile). Whole x × Priced prices x) (closed-gives m n after e) (at-the-end m s count d, priced-end prices m count p)
 
-read-on-whole : (setting : Setting) (more : ℕ) (bytes : List ℕ) (n : ℕ) (m : MonthFile) → Sound m → {m′ : MonthFile} → readOn setting more bytes n m ≡ given m′ → Whole m′
+read-on-whole : (prices : Prices) (more : ℕ) (bytes : List ℕ) (n : ℕ) (m : MonthFile) → Sound m → {m′ : MonthFile} → readOn prices more bytes n m ≡ given m′ → Whole m′ × Priced prices m′
 unfolding readOn recordChecks
-read-on-whole setting zero bytes n m s e = absurd (given-not-refusal e)
-read-on-whole setting (suc more) [] n m s e = absurd (given-not-refusal e)
-read-on-whole setting (suc more) (kind ∷ body) n m s {m′} e =
+read-on-whole prices zero bytes n m s e = absurd (given-not-refusal e)
+read-on-whole prices (suc more) [] n m s e = absurd (given-not-refusal e)
+read-on-whole prices (suc more) (kind ∷ body) n m s {m′} e =
     let r = recordAt (kind ∷ body) in
-    let on = went-on (first (recordChecks setting m n (kind ∷ body))) _ e in
-    let passed = accepted-exactly (recordChecks setting m n (kind ∷ body)) .0 (on .0) in
+    let on = went-on (first (recordChecks prices m n (kind ∷ body))) _ e in
+    let passed = accepted-exactly (recordChecks prices m n (kind ∷ body)) .0 (on .0) in
     let d : due m r ≡ true = unless-exactly (due m r) _ _ .0 (passed .1 .1 .0) in
-    let s′ : Sound (with m r) = step m s n r d (passed .1 .1 .1) in
-    past-one m s r (suc n) (drop (bodyLength kind) body) (readOn setting more (drop (bodyLength kind) body) (suc n) (with m r)) d s′
-    (λ s″. read-on-whole setting more (drop (bodyLength kind) body) (suc n) (with m r) s″)
+    let p : pricedFor prices m r ≡ true = unless-exactly (pricedFor prices m r) _ _ .0 (passed .1 .1 .1 .0) in
+    let s′ : Sound (with m r) = step m s n r d (passed .1 .1 .1 .1) in
+    past-one prices m s r (suc n) (drop (bodyLength kind) body) (readOn prices more (drop (bodyLength kind) body) (suc n) (with m r)) d p s′
+    (λ s″. read-on-whole prices more (drop (bodyLength kind) body) (suc n) (with m r) s″)
     (on .1)
 
 length-passed : (fits : Bool) (read : Answer MonthFile) {m : MonthFile} → cond fits read (refusal fileFault 0) ≡ given m → (fits ≡ true) × (read ≡ given m)
@@ -513,27 +558,33 @@ length-passed true read e = (refl, e)
 length-passed false read e = absurd (given-not-refusal e)
 
 -- a file that is read has the right length, and is read record by record
-pub of-the-right-length : (setting : Setting) (bytes : List ℕ) {m : MonthFile} → readMonth setting bytes ≡ given m
-    → (within 1 longestFile (length bytes) ≡ true) × (readOn setting (length bytes) bytes 0 nothingYet ≡ given m)
+pub of-the-right-length : (prices : Prices) (bytes : List ℕ) {m : MonthFile} → readMonth prices bytes ≡ given m
+    → (within 1 longestFile (length bytes) ≡ true) × (readOn prices (length bytes) bytes 0 nothingYet ≡ given m)
 unfolding readMonth
-of-the-right-length setting bytes e = length-passed (within 1 longestFile (length bytes)) (readOn setting (length bytes) bytes 0 nothingYet) e
+of-the-right-length prices bytes e = length-passed (within 1 longestFile (length bytes)) (readOn prices (length bytes) bytes 0 nothingYet) e
 
--- WHAT IS READ IS WHOLE.
-pub what-is-read-is-whole : (setting : Setting) (bytes : List ℕ) {m : MonthFile} → readMonth setting bytes ≡ given m → Whole m
-what-is-read-is-whole setting bytes e = read-on-whole setting (length bytes) bytes 0 nothingYet nothing-is-sound (of-the-right-length setting bytes e .1)
+-- WHAT IS READ IS WHOLE, and has its prices where they are needed.
+whole-and-priced : (prices : Prices) (bytes : List ℕ) {m : MonthFile} → readMonth prices bytes ≡ given m → Whole m × Priced prices m
+whole-and-priced prices bytes e = read-on-whole prices (length bytes) bytes 0 nothingYet nothing-is-sound (of-the-right-length prices bytes e .1)
+
+pub what-is-read-is-whole : (prices : Prices) (bytes : List ℕ) {m : MonthFile} → readMonth prices bytes ≡ given m → Whole m
+what-is-read-is-whole prices bytes e = whole-and-priced prices bytes e .0
+
+pub what-is-read-is-priced : (prices : Prices) (bytes : List ℕ) {m : MonthFile} → readMonth prices bytes ≡ given m → Priced prices m
+what-is-read-is-priced prices bytes e = whole-and-priced prices bytes e .1
 
 -- THE BOUND OF `readOn` IS ENOUGH: from the number of bytes on, it does not matter how large it is
-pub bound-is-enough : (setting : Setting) (a b : ℕ) (bytes : List ℕ) (n : ℕ) (m : MonthFile) → length bytes ≤ a → length bytes ≤ b → readOn setting a bytes n m ≡ readOn setting b bytes n m
+pub bound-is-enough : (prices : Prices) (a b : ℕ) (bytes : List ℕ) (n : ℕ) (m : MonthFile) → length bytes ≤ a → length bytes ≤ b → readOn prices a bytes n m ≡ readOn prices b bytes n m
 unfolding readOn
-bound-is-enough setting zero zero bytes n m x y = refl
-bound-is-enough setting zero (suc b) [] n m x y = refl
-bound-is-enough setting zero (suc b) (kind ∷ body) n m x y = absurd (omega arith)
-bound-is-enough setting (suc a) zero [] n m x y = refl
-bound-is-enough setting (suc a) zero (kind ∷ body) n m x y = absurd (omega arith)
-bound-is-enough setting (suc a) (suc b) [] n m x y = refl
-bound-is-enough setting (suc a) (suc b) (kind ∷ body) n m x y =
+bound-is-enough prices zero zero bytes n m x y = refl
+bound-is-enough prices zero (suc b) [] n m x y = refl
+bound-is-enough prices zero (suc b) (kind ∷ body) n m x y = absurd (omega arith)
+bound-is-enough prices (suc a) zero [] n m x y = refl
+bound-is-enough prices (suc a) zero (kind ∷ body) n m x y = absurd (omega arith)
+bound-is-enough prices (suc a) (suc b) [] n m x y = refl
+bound-is-enough prices (suc a) (suc b) (kind ∷ body) n m x y =
     let left : List ℕ = drop (bodyLength kind) body in
     let fewer : length left ≤ length body = omega (arith, length-drop (bodyLength kind) body) in
     let r : Record = recordAt (kind ∷ body) in
-    ap (λ (rest : Answer MonthFile). onward (first (recordChecks setting m n (kind ∷ body))) (cond (isEnd r) (closed m (suc n) left) rest))
-    (bound-is-enough setting a b left (suc n) (with m r) (omega arith) (omega arith))
+    ap (λ (rest : Answer MonthFile). onward (first (recordChecks prices m n (kind ∷ body))) (cond (isEnd r) (closed m (suc n) left) rest))
+    (bound-is-enough prices a b left (suc n) (with m r) (omega arith) (omega arith))

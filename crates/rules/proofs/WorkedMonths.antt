@@ -1,10 +1,10 @@
 -- The worked months, each by computing the definitions from the file's bytes to the printed text.
 use mathlib.Core.Path.{refl}
-use Rattle.rules.specs.WorkedMonths.{fileOf, supply, partyOf, brpPartyOf, readingOf, longReadingOf, headingOf, S1, D3of, D3, D3brps, oreOf, wholeOre, oreBrps, begin, fixedHours, refixedHours, prices, small, unrefixed, closing, emptyFirst, opening, WorkedMonths}
+use Rattle.rules.specs.WorkedMonths.{fileOf, supply, partyOf, brpPartyOf, readingOf, longReadingOf, headingOf, S1, D3of, D3, D3brps, oreOf, wholeOre, oreBrps, begin, fixedHours, refixedHours, prices, small, unrefixed, closing, volumes, emptyFirst, opening, WorkedMonths}
 use Rattle.rules.proofs.Computed.{words, hours, parts, records, files, months, texts, reports}
 
 pub worked-months : WorkedMonths
-unfolding words hours parts records files months texts reports fileOf supply partyOf brpPartyOf readingOf longReadingOf headingOf S1 D3of D3 D3brps oreOf wholeOre oreBrps begin fixedHours refixedHours prices small unrefixed closing emptyFirst opening
+unfolding words hours parts records files months texts reports fileOf supply partyOf brpPartyOf readingOf longReadingOf headingOf S1 D3of D3 D3brps oreOf wholeOre oreBrps begin fixedHours refixedHours prices small unrefixed closing volumes emptyFirst opening
 worked-months =
     record {
       S1-lines = refl;
@@ -61,6 +61,13 @@ worked-months =
       brps-refused = refl;
       refused-3-12-after-02 = refl;
       refused-3-02-after-12 = refl;
+      report-without-prices = refl;
+      statement-needs-prices = refl;
+      brps-need-prices = refl;
+      half-the-prices = refl;
+      price-after-a-reading = refl;
+      refixed-after-a-reading = refl;
+      price-judged = refl;
       refused-5-brp = refl;
       refused-5-brp-no-digits = refl;
       range-before-brp = refl;

@@ -13,7 +13,7 @@ use Rattle.rules.specs.Month.{partyAt, flowsAt, appliedFlows, shareOf, m
 use Rattle.rules.specs.MonthFile.{MonthFile, H, P, readMonth}
 use Rattle.rules.specs.Refusals.{Verdict, accepted, refused, Answer, given, refusal}
 use Rattle.rules.specs.Statement.{decimal, signedDecimal, newline, refusalLine, headingLine, joined}
-use Rattle.rules.specs.Setting.{Setting}
+use Rattle.rules.specs.Setting.{Setting, optional}
 use Rattle.rules.specs.Words.{sum, sumℤ, figures, ascii}
 
 -- "Which hours were measured?": a status in words. A month with a missing hour is refused (7) and has no report, so there are two words: of status 0 nothing
@@ -102,6 +102,6 @@ unfoldable pub answeredReport : Setting → Answer MonthFile → List ℕ
 answeredReport setting (given m) = judgedReport m (monthVerdict setting m)
 answeredReport setting (refusal r place) = refusalLine r place
 
--- THE REPORT OF A FILE
+-- THE REPORT OF A FILE, which prints no money. W6: "A file for the first alone may have no 05 records"
 unfoldable pub hoursReport : Setting → List ℕ → List ℕ
-hoursReport setting bytes = answeredReport setting (readMonth setting bytes)
+hoursReport setting bytes = answeredReport setting (readMonth optional bytes)

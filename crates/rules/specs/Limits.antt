@@ -72,6 +72,10 @@ mostMonths = 13
 abbrev pub greatestDistributed : ℕ
 greatestDistributed = 2000000001
 
+-- W6: "a difference beyond 2,000,000,001 Wh of either sign"
+abbrev pub greatestDifference : ℕ
+greatestDifference = 2000000001
+
 -- "Each hour has a status: 0 missing, 1 measured, 2 estimated." (From flows to the curve)
 abbrev pub missing : ℕ
 missing = 0

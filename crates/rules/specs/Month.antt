@@ -15,7 +15,7 @@ use Rattle.rules.specs.Reconciliation.{gridLoss, lossOf, differenceOf, a
 use Rattle.rules.specs.Record.{ownBrp, Party, Over, thisMonth, manyMonths, Reading}
 use Rattle.rules.specs.Refusals.{notRefixed, wOutOfRange, curveTooLarge, wholeExceeded, nothingToFollow, periodisedTooLarge, wrongLength}
 use Rattle.rules.specs.Refusals.{Verdict, refused, Answer, given, refusal, unless, andThen, first, inTurn}
-use Rattle.rules.specs.Setting.{Setting, provisional, isProvisional}
+use Rattle.rules.specs.Setting.{Setting, isProvisional, Prices, optional}
 use Rattle.rules.specs.Words.{sum, sumℤ, count, within}
 
 -- What stands at a place of a list. Past a list's end nothing is asked; what is written for it there is an empty record.
@@ -194,23 +194,24 @@ monthChecks setting m =
 unfoldable pub monthVerdict : Setting → MonthFile → Verdict
 monthVerdict setting m = first (monthChecks setting m)
 
--- A CALL ON A WHOLE FILE, under the setting given: the refusals of reading it, then those of the month.
+-- A CALL ON A WHOLE FILE, with the prices needed or not, and final or provisional: the refusals of reading it, then those of the month.
 unfoldable pub verdictOn : Setting → Answer MonthFile → Verdict
 verdictOn setting (given m) = monthVerdict setting m
 verdictOn setting (refusal r place) = refused r place
 
-unfoldable pub fileVerdict : Setting → List ℕ → Verdict
-fileVerdict setting file = verdictOn setting (readMonth setting file)
+unfoldable pub fileVerdict : Prices → Setting → List ℕ → Verdict
+fileVerdict prices setting file = verdictOn setting (readMonth prices file)
 
 -- "last, for a call on a whole month, 16"
-unfoldable pub callVerdict : Setting → List ℕ → Bool → Verdict
-callVerdict setting file lentRight = andThen (fileVerdict setting file) (unless lentRight wrongLength 0)
+unfoldable pub callVerdict : Prices → Setting → List ℕ → Bool → Verdict
+callVerdict prices setting file lentRight = andThen (fileVerdict prices setting file) (unless lentRight wrongLength 0)
 
 -- the month that a file is read as. Of a file that is refused nothing is asked; what is written for it there is an empty month.
 unfoldable pub monthRead : Answer MonthFile → MonthFile
 monthRead (given m) = m
 monthRead (refusal r place) = nothingYet
 
--- it has no setting: a file that is read is read as the same month under both (law `read-alike`), so that no figure depends on what the caller says
+-- it has no setting: a file that is read with its prices needed is read as the same month without (law `read-alike`), so that no figure depends on what the
+-- caller says
 unfoldable pub monthOf : List ℕ → MonthFile
-monthOf file = monthRead (readMonth provisional file)
+monthOf file = monthRead (readMonth optional file)

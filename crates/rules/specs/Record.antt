@@ -11,6 +11,7 @@ use Rattle.rules.specs.Flows.{Flows, flowsInRange, silentIsZero}
 use Rattle.rules.specs.Gln.{validGln, rises}
 use Rattle.rules.specs.Limits.{greatestArea, earliestYear, latestYear, monthsOfAYear, mostHours, mostParties, greatestShare, greatestEnergy, greatestPrice, glnDigits}
 use Rattle.rules.specs.Refusals.{fileFault, unknownKind, outOfRange, glnFault, spanFault, energyTooLarge, wrongCount, wrongLength, Verdict, Answer, unless, first, answer}
+use Rattle.rules.specs.Setting.{Prices, needed, optional}
 use Rattle.rules.specs.Words.{at, within, withinℤ, joined}
 
 -- THE KINDS: "One byte of kind, then a body."
@@ -328,7 +329,8 @@ with m (end count) = m
 
 -- THE ORDER (3, "kind or hour field out of order"). "Order: one 01; P times 02; H times 03; none or H times 06; H times 05; any number of 04; one 07. Hour
 -- fields run 0, 1, 2 and so on": whether a record is due next. W3: an 08 "stands among the 04 records", in any order. W5: a 12 "may stand in place of 02 for all
--- parties of a file"; "a mixture of 02 and 12 is 3": a party's record is of the kind of the party's before it.
+-- parties of a file"; "a mixture of 02 and 12 is 3": a party's record is of the kind of the party's before it. W6: "A file for the first alone may have no 05
+-- records": none or H times 05; where the prices are needed `pricedFor` asks for all of them.
 unfoldable pub afterTheLast : (Party → Party → Bool) → List Party → Party → Bool
 afterTheLast test [] p = true
 afterTheLast test (q ∷ []) p = test q p
@@ -340,19 +342,40 @@ alike q p = eqb (partyKindOf (q .brp)) (partyKindOf (p .brp))
 unfoldable pub alikeAfter : List Party → Party → Bool
 alikeAfter parties p = afterTheLast alike parties p
 
+-- H times 03, and none or H times 06
+unfoldable pub hoursThere : MonthFile → Bool
+hoursThere m = eqb (length (m .fixed)) (H m) && (eqb (length (m .refixed)) 0 || eqb (length (m .refixed)) (H m))
+
+-- H times 05, or none: where none is there yet, the hours are
+unfoldable pub pricesThere : MonthFile → Bool
+pricesThere m = eqb (length (m .prices)) (H m) || (eqb (length (m .prices)) 0 && hoursThere m)
+
 unfoldable pub due : MonthFile → Record → Bool
 due m (heading h) = eqb (H m) 0
 due m (party p) = ltb (length (m .parties)) (P m) && alikeAfter (m .parties) p
 due m (fixedHour hour f) = eqb (length (m .parties)) (P m) && ltb (length (m .fixed)) (H m) && eqb hour (length (m .fixed))
 due m (refixedHour hour f) =
-    eqb (length (m .fixed)) (H m) && ltb (length (m .refixed)) (H m) && eqb (length (m .prices)) 0
+    eqb (length (m .fixed)) (H m) && ltb (length (m .refixed)) (H m) && eqb (length (m .prices)) 0 && eqb (length (m .readings)) 0
     && eqb hour (length (m .refixed))
 due m (price hour p) =
-    eqb (length (m .fixed)) (H m) && (eqb (length (m .refixed)) 0 || eqb (length (m .refixed)) (H m))
-    && ltb (length (m .prices)) (H m)
-    && eqb hour (length (m .prices))
-due m (reading r) = leb 1 (H m) && eqb (length (m .prices)) (H m)
-due m (end count) = leb 1 (H m) && eqb (length (m .prices)) (H m)
+    hoursThere m && ltb (length (m .prices)) (H m) && eqb (length (m .readings)) 0 && eqb hour (length (m .prices))
+due m (reading r) = leb 1 (H m) && pricesThere m
+due m (end count) = leb 1 (H m) && pricesThere m
+
+-- Where the prices are needed, nothing that comes after them is due before all are there: "the statement program goes on refusing such a file with 3", at the
+-- record that stands where hour 0's price is due (law `refused-where-a-price-is-due`).
+unfoldable pub allPriced : Prices → MonthFile → Bool
+allPriced needed m = eqb (length (m .prices)) (H m)
+allPriced optional m = true
+
+unfoldable pub pricedFor : Prices → MonthFile → Record → Bool
+pricedFor prices m (heading h) = true
+pricedFor prices m (party p) = true
+pricedFor prices m (fixedHour hour f) = true
+pricedFor prices m (refixedHour hour f) = true
+pricedFor prices m (price hour p) = true
+pricedFor prices m (reading r) = allPriced prices m
+pricedFor prices m (end count) = allPriced prices m
 
 -- WHERE A RECORD STANDS: in a file, after what was read of it so far, as record number n; or by itself, with so many hours and parties, at a place.
 pub data Position : Type 0 where

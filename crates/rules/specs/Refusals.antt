@@ -42,6 +42,8 @@ pub data Refusal : Type 0 where
   notRefixed : Refusal
   -- W3: "weight before plus the month's own weight exceeds the whole, or the whole is over 8,784,000,000,000"
   wholeExceeded : Refusal
+  -- W6: "a difference beyond 2,000,000,001 Wh of either sign"
+  differenceTooLarge : Refusal
 
 abbrev pub numberOf : Refusal → ℕ
 numberOf fileFault = 1
@@ -62,6 +64,7 @@ numberOf wrongCount = 15
 numberOf wrongLength = 16
 numberOf notRefixed = 17
 numberOf wholeExceeded = 18
+numberOf differenceTooLarge = 19
 
 -- "A refusal returns its number and a place, and the call has written nothing." "Places count from 0"
 pub data Verdict : Type 0 where

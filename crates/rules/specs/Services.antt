@@ -4,21 +4,21 @@
 -- `lent` is the length of the lent output. The needed length is that of the list named first, and for distribution one figure for each hour and party.
 use mathlib.Core.Bool.{Bool, _&&_, _||_}
 use mathlib.Core.List.{List, [], _∷_}
-use Prim.Native.Nat.{ℕ, _*_, _/_, _%_}
+use Prim.Native.Nat.{ℕ, _+_, _*_, _/_, _%_}
 use lib.Dec.{eqb, leb, ltb}
-use lib.IntN.{ℤ, pos, negsuc}
+use lib.IntN.{ℤ, pos, negsuc, natAbs}
 use lib.ListN.{length, getD}
 use lib.Signed.{leZ}
 use Rattle.rules.specs.Distributed.{distributedFigure}
 use Rattle.rules.specs.Flows.{Flows, silentIsZero, judged, verdictOf, residualWh, W, curveNumber}
 use Rattle.rules.specs.Invoice.{invoiceOre}
 use Rattle.rules.specs.Limits.{estimated, greatestFlow, mostHours, mostParties, greatestShare, greatestW, greatestResidual}
-use Rattle.rules.specs.Limits.{greatestCurveNumber, mostWeights, greatestEnergy, greatestPeriodised, greatestPrice, greatestDistributed}
+use Rattle.rules.specs.Limits.{greatestCurveNumber, mostWeights, greatestEnergy, greatestPeriodised, greatestPrice, greatestDistributed, greatestDifference}
 use Rattle.rules.specs.Periodised.{periodisedFigure}
 use Rattle.rules.specs.Reconciliation.{gridLoss, differenceOf, amountMillionths}
 use Rattle.rules.specs.Refusals.{Refusal, outOfRange, wOutOfRange, residualTooLarge, curveTooLarge, spanFault, energyTooLarge}
-use Rattle.rules.specs.Refusals.{nothingToFollow, periodisedTooLarge, wrongLength, Verdict, unless, inTurn}
-use Rattle.rules.specs.Words.{sum, sumℤ, figures, at, within, withinℤ, atMost}
+use Rattle.rules.specs.Refusals.{nothingToFollow, periodisedTooLarge, wrongLength, differenceTooLarge, Verdict, unless, inTurn}
+use Rattle.rules.specs.Words.{sum, sumℤ, count, figures, at, within, withinℤ, atMost}
 
 unfoldable pub atℤ : List ℤ → ℕ → ℤ
 atℤ l i = getD l i (pos 0)
@@ -163,6 +163,40 @@ amountAt differences price i = amountMillionths (atℤ differences i) price
 
 unfoldable pub reconciliationAmounts : List ℤ → ℤ → List ℤ
 reconciliationAmounts differences price = figures (length differences) (amountAt differences price)
+
+-- AMOUNTS (W6: "the other takes differences and prices and gives amounts"): differences, hour by hour and within an hour party by party, P, and prices, one for
+-- each hour; a lent output. Party i's difference in hour t:
+unfoldable pub differenceIn : List ℤ → ℕ → ℕ → ℕ → ℤ
+differenceIn differences parties t i = atℤ differences (t * parties + i)
+
+-- "differences of an hour that don't add up to 0 are 4, place the hour". A difference may be any number, and the sum is the true one.
+unfoldable pub addsUpCheck : List ℤ → ℕ → ℕ → Verdict
+addsUpCheck differences parties t = unless (sameℤ (sumℤ parties (differenceIn differences parties t)) (pos 0)) outOfRange t
+
+-- "19, a difference beyond 2,000,000,001 Wh of either sign, place the hour": how many of an hour's there are
+unfoldable pub isBeyond : ℤ → Bool
+isBeyond wh = ltb greatestDifference (natAbs wh)
+
+unfoldable pub beyondCheck : List ℤ → ℕ → ℕ → Verdict
+beyondCheck differences parties t = unless (eqb (count parties (λ i. isBeyond (differenceIn differences parties t i))) 0) differenceTooLarge t
+
+-- 16; 4: lengths unequal, H and P, each price; "differences of an hour that don't add up to 0 are 4, place the hour, last of its 4s; 19, .., after 4."
+unfoldable pub amountsChecks : List ℤ → ℕ → List ℤ → ℕ → List Verdict
+amountsChecks differences parties prices lent =
+    unless (eqb lent (length differences)) wrongLength 0
+    ∷ unless (eqb (length differences) (length prices * parties)) outOfRange 0
+    ∷ unless (within 1 mostHours (length prices) && within 1 mostParties parties) outOfRange 0
+    ∷ eachAtℤ prices (withinℤ greatestPrice) outOfRange
+    ∷ inTurn (length prices) (addsUpCheck differences parties)
+    ∷ inTurn (length prices) (beyondCheck differences parties)
+    ∷ []
+
+-- each difference times the price of its hour
+unfoldable pub pricedAt : List ℤ → ℕ → List ℤ → ℕ → ℤ
+pricedAt differences parties prices k = amountMillionths (atℤ differences k) (atℤ prices (k / parties))
+
+unfoldable pub amountsFigures : List ℤ → ℕ → List ℤ → List ℤ
+amountsFigures differences parties prices = figures (length differences) (pricedAt differences parties prices)
 
 -- INVOICE: exact amounts. 16; 4 (P); W2: "Exact amounts handed in alone that don't add up to 0 are 4, place 0." Any amounts are taken, and the sum is the true one.
 unfoldable pub invoiceChecks : List ℤ → ℕ → List Verdict

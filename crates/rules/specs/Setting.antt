@@ -1,4 +1,5 @@
--- The setting of a call on a whole file (02, W1 "Do not settle silently on fixed figures").
+-- The setting of a call on a whole file: what is said of the month (02, W1 "Do not settle silently on fixed figures"), and of its reading (02, W6 "Quantities
+-- first, amounts later").
 use mathlib.Core.Bool.{Bool, true, false}
 
 -- "A file with no 06 records shall be refused unless the caller says that the month is provisional.": what the caller says
@@ -9,3 +10,8 @@ pub data Setting : Type 0 where
 abbrev pub isProvisional : Setting → Bool
 isProvisional final = false
 isProvisional provisional = true
+
+-- W6: "A file for the first alone may have no 05 records; the statement program goes on refusing such a file with 3.": whether the reading needs the prices
+pub data Prices : Type 0 where
+  needed : Prices
+  optional : Prices

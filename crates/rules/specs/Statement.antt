@@ -10,7 +10,7 @@ use Rattle.rules.specs.Limits.{glnDigits}
 use Rattle.rules.specs.Month.{partyAt, monthDistributed, monthPeriodised, monthLoss, monthDifference, invoice, estimatedHours, monthVerdict}
 use Rattle.rules.specs.MonthFile.{MonthFile, H, P, readMonth}
 use Rattle.rules.specs.Refusals.{Refusal, numberOf, Verdict, accepted, refused, Answer, given, refusal}
-use Rattle.rules.specs.Setting.{Setting}
+use Rattle.rules.specs.Setting.{Setting, needed}
 use Rattle.rules.specs.Words.{sum, sumℤ, figures, ascii}
 unfoldable pub use Rattle.rules.specs.Words.{joined}
 
@@ -126,7 +126,7 @@ answeredStatement per setting (refusal r place) = refusalLine r place
 
 -- the statement of a file, per party or per BRP: "Reads one month file from standard input. .. On refusal it prints one line .. Else: .."
 unfoldable pub statementPer : Per → Setting → List ℕ → List ℕ
-statementPer per setting bytes = answeredStatement per setting (readMonth setting bytes)
+statementPer per setting bytes = answeredStatement per setting (readMonth needed bytes)
 
 -- THE STATEMENT OF A FILE. W1: "The statement program keeps final as its setting; a preview program asks for provisional"
 abbrev pub statement : Setting → List ℕ → List ℕ

@@ -12,6 +12,7 @@ use Rattle.rules.specs.Gln.{validGln, digitsOnto}
 use Rattle.rules.specs.Limits.{greatestShare, greatestEnergy, greatestPrice, longestFile}
 use Rattle.rules.specs.Record.{Heading, Party, Over, thisMonth, manyMonths, Reading, Record, heading, party, fixedHour, reading, price, refixedHour, end}
 use Rattle.rules.specs.Record.{recordBytes, brpGln, partyKindOf, MonthFile, H, P, headingInRange}
+use Rattle.rules.specs.Setting.{Prices, needed, optional}
 use Rattle.rules.specs.Words.{withinℤ}
 
 -- bytes: every one below 256
@@ -37,7 +38,7 @@ asParty n p = party p
 abbrev pub asReading : ℕ → Reading → Record
 asReading n r = reading r
 
--- "Order: one 01; P times 02; H times 03; none or H times 06; H times 05; any number of 04; one 07.": all but the last. W3: an 08 "stands among the 04 records". W5: a 12 "in
+-- "Order: one 01; P times 02; H times 03; none or H times 06; H times 05; any number of 04; one 07.": all but the last. W6: none or H times 05. W3: an 08 "stands among the 04 records". W5: a 12 "in
 -- place of 02 for all parties of a file".
 unfoldable pub recordsOf : MonthFile → List Record
 recordsOf m =
@@ -115,11 +116,11 @@ OneKind (p ∷ later) = Every (SameKind p) later
 -- all the records that the heading announces, each within its rules
 pub record Whole (m : MonthFile) : Type 0 where
   pub head : HeadingRight (m .heading)
-  -- "P times 02; H times 03; none or H times 06; H times 05"
+  -- "P times 02; H times 03; none or H times 06; H times 05". W6: "may have no 05 records"
   pub all-parties : length (m .parties) ≡ P m
   pub all-fixed : length (m .fixed) ≡ H m
   pub none-or-all-refixed : (length (m .refixed) ≡ 0) ⊎ (length (m .refixed) ≡ H m)
-  pub all-prices : length (m .prices) ≡ H m
+  pub none-or-all-prices : (length (m .prices) ≡ 0) ⊎ (length (m .prices) ≡ H m)
   pub parties : Every PartyRight (m .parties)
   pub rising : Rising (m .parties)
   pub one-kind : OneKind (m .parties)
@@ -128,8 +129,14 @@ pub record Whole (m : MonthFile) : Type 0 where
   pub prices : Every PriceRight (m .prices)
   pub readings : Every (ReadingRight (H m) (P m)) (m .readings)
 
+-- where the prices are needed, they are there
+abbrev pub Priced : Prices → MonthFile → Type 0
+Priced needed m = length (m .prices) ≡ H m
+Priced optional m = Unit
+
 -- and each weight has room in its bytes, and "At most 65,536 bytes."
-pub record WellFormed (m : MonthFile) : Type 0 where
+pub record WellFormed (prices : Prices) (m : MonthFile) : Type 0 where
   pub whole : Whole m
+  pub priced : Priced prices m
   pub weights : Every ReadingHeld (m .readings)
   pub not-too-long : length (fileOf m) ≤ longestFile

@@ -170,6 +170,12 @@ unrefixed share0 share1 records =
 unfoldable pub closing : List Record → List ℕ
 closing records = unrefixed 1 1 records
 
+-- W6: the volumes alone, with the records after them given; with the prices and the reading they are the month `small`
+unfoldable pub volumes : List Record → List ℕ
+volumes records =
+    fileOf
+    (begin 1 1 ++ fixedHours (supply measured (pos 1)) (supply measured (pos 3)) ++ refixedHours (supply measured (pos 2)) (supply estimated (pos 2)) ++ records)
+
 -- the same where hour 0 weighs nothing
 unfoldable pub emptyFirst : List Record → List ℕ
 emptyFirst records = fileOf (begin 1 1 ++ fixedHours (supply measured (pos 0)) (supply measured (pos 3)) ++ prices ++ records)
@@ -320,6 +326,19 @@ pub record WorkedMonths : Type 0 where
   pub refused-3-02-after-12 :
       statement final (opening (headingOf 1 2020 1 2 2 0 ∷ brpPartyOf "0000000000017" "0000000000024" 1 ∷ partyOf "0000000000018" 4000000001 ∷ []))
       ≡ ascii "refused 3 at 2\n"
+  -- W6: "A file for the first alone may have no 05 records": its report is that of the file with them; "the statement program goes on refusing such a file with
+  -- 3", at the record that stands where hour 0's price is due, a reading or the end
+  pub report-without-prices :
+      hoursReport final (volumes (readingOf 1 0 2 4 ∷ end 8 ∷ [])) ≡ hoursReport final (volumes (prices ++ (readingOf 1 0 2 4 ∷ end 10 ∷ [])))
+  pub statement-needs-prices : statement final (volumes (readingOf 1 0 2 4 ∷ end 8 ∷ [])) ≡ ascii "refused 3 at 7\n"
+  pub brps-need-prices : brpStatement final (volumes (end 7 ∷ [])) ≡ ascii "refused 3 at 7\n"
+  -- none or H: half of them are 3 at the record that breaks off; no price and no refixed hour after a reading; a price that is there is judged
+  pub half-the-prices : hoursReport final (volumes (price 0 (pos 0) ∷ readingOf 1 0 2 4 ∷ end 9 ∷ [])) ≡ ascii "refused 3 at 8\n"
+  pub price-after-a-reading : hoursReport final (volumes (readingOf 1 0 2 4 ∷ price 0 (pos 0) ∷ [])) ≡ ascii "refused 3 at 8\n"
+  pub refixed-after-a-reading :
+      hoursReport final (fileOf (begin 1 1 ++ fixedHours (supply measured (pos 1)) (supply measured (pos 3)) ++ (readingOf 1 0 2 4 ∷ refixedHour 0 (supply measured (pos 2)) ∷ [])))
+      ≡ ascii "refused 3 at 6\n"
+  pub price-judged : hoursReport final (volumes (price 0 (pos 5000001) ∷ [])) ≡ ascii "refused 4 at 7\n"
   -- W5: "a bad BRP GLN is 5": a wrong check digit, or not digits; 4 before it
   pub refused-5-brp : statement final (opening (headingOf 1 2020 1 2 2 0 ∷ brpPartyOf "0000000000017" "0000000000025" 1 ∷ [])) ≡ ascii "refused 5 at 1\n"
   pub refused-5-brp-no-digits :

@@ -11,10 +11,10 @@ use Rattle.rules.specs.Plan.{LongReading, planned, planChecks}
 use Rattle.rules.specs.Record.{readingKind, priceKind, endKind, longReadingKind, brpPartyKind, manyMonths, Reading, fixedHour, price, end, bodyLength, recordBytes, readAlone}
 use Rattle.rules.specs.Record.{writeVerdict, written}
 use Rattle.rules.specs.Refusals.{fileFault, unknownKind, outOfRange, glnFault, wOutOfRange, missingHour, residualNegative, residualTooLarge}
-use Rattle.rules.specs.Refusals.{curveTooLarge, spanFault, energyTooLarge, nothingToFollow, periodisedTooLarge, wrongLength, accepted, refused, given}
+use Rattle.rules.specs.Refusals.{curveTooLarge, spanFault, energyTooLarge, nothingToFollow, periodisedTooLarge, wrongLength, differenceTooLarge, accepted, refused, given}
 use Rattle.rules.specs.Refusals.{refusal, first}
 use Rattle.rules.specs.Services.{residualChecks, residualFigures, curveChecks, distributionChecks, periodisationChecks}
-use Rattle.rules.specs.Services.{reconciliationChecks, reconciliationLoss, reconciliationDifferences, reconciliationAmounts, invoiceChecks, invoiceFigures}
+use Rattle.rules.specs.Services.{reconciliationChecks, reconciliationLoss, reconciliationDifferences, reconciliationAmounts, amountsChecks, amountsFigures, invoiceChecks, invoiceFigures}
 use Rattle.rules.specs.WorkedMonths.{supply, partyOf, brpPartyOf, readingOf, longReadingOf}
 use Rattle.rules.specs.Words.{figures, ascii}
 
@@ -84,6 +84,21 @@ pub record WorkedServices : Type 0 where
   pub reconciliation-amounts :
       reconciliationAmounts (pos 1950000 ∷ negsuc 3299999 ∷ pos 1350000 ∷ []) (pos 29000)
       ≡ pos 56550000000 ∷ negsuc 95699999999 ∷ pos 39150000000 ∷ []
+  -- W6: each difference times its own hour's price; 16; the lengths, H and P at 0; a price at its place; "place the hour", by the true sum, which 64 bits need not
+  -- hold; 2,000,000,001 of either sign is within; 19 "after 4", of a later hour too
+  pub amounts-by-hour : amountsFigures (pos 3 ∷ negsuc 2 ∷ negsuc 0 ∷ pos 1 ∷ []) 2 (pos 10 ∷ negsuc 4 ∷ []) ≡ pos 30 ∷ negsuc 29 ∷ pos 5 ∷ negsuc 4 ∷ []
+  pub amounts-lent : first (amountsChecks (pos 0 ∷ []) 2 [] 2) ≡ refused wrongLength 0
+  pub amounts-unequal : first (amountsChecks (pos 1 ∷ pos 0 ∷ pos 0 ∷ []) 2 (pos 5000001 ∷ []) 3) ≡ refused outOfRange 0
+  pub amounts-no-hours : first (amountsChecks [] 2 [] 0) ≡ refused outOfRange 0
+  pub amounts-746-hours : first (amountsChecks (replicate 746 (pos 0)) 1 (replicate 746 (pos 0)) 746) ≡ refused outOfRange 0
+  pub amounts-nobody : first (amountsChecks [] 0 (pos 0 ∷ []) 0) ≡ refused outOfRange 0
+  pub amounts-65-parties : first (amountsChecks (replicate 65 (pos 0)) 65 (pos 0 ∷ []) 65) ≡ refused outOfRange 0
+  pub amounts-price : first (amountsChecks (pos 1 ∷ pos 0 ∷ []) 1 (pos 0 ∷ negsuc 5000000 ∷ []) 2) ≡ refused outOfRange 1
+  pub amounts-not-adding-up : first (amountsChecks (pos 2000000002 ∷ negsuc 2000000001 ∷ pos 1 ∷ pos 0 ∷ []) 2 (pos 0 ∷ pos 0 ∷ []) 4) ≡ refused outOfRange 1
+  pub amounts-true-sum : first (amountsChecks (negsuc 9223372036854775807 ∷ negsuc 9223372036854775807 ∷ []) 2 (pos 0 ∷ []) 2) ≡ refused outOfRange 0
+  pub amounts-edges : first (amountsChecks (pos 2000000001 ∷ negsuc 2000000000 ∷ []) 2 (negsuc 4999999 ∷ []) 2) ≡ accepted
+  pub amounts-beyond : first (amountsChecks (pos 0 ∷ pos 0 ∷ pos 2000000002 ∷ negsuc 2000000001 ∷ []) 2 (pos 0 ∷ pos 0 ∷ []) 4) ≡ refused differenceTooLarge 1
+  pub amounts-beyond-below : first (amountsChecks (pos 1000000001 ∷ pos 1000000001 ∷ negsuc 2000000001 ∷ []) 3 (pos 0 ∷ []) 3) ≡ refused differenceTooLarge 0
   -- W2: below zero rounded down too, so that the øre go to the smaller sizes; equal remainders; a part of an øre against its opposite; nobody's amounts; the true
   -- sum, also where a sum of 64 bits would be 0; 16 before 4
   pub invoice-below-zero : invoiceFigures (negsuc 499999 ∷ negsuc 499999 ∷ pos 1000000 ∷ []) ≡ pos 0 ∷ negsuc 0 ∷ pos 1 ∷ []
