@@ -4,7 +4,7 @@ use Rattle.answer.specs.Said.{named, said}
 use Rattle.answer.specs.declared.Refusal.{Refusal}
 use Rattle.answer.specs.declared.Refusal.the-variants.{FileFault, UnknownKind, OutOfOrder, OutOfRange, GlnFault, WOutOfRange}
 use Rattle.answer.specs.declared.Refusal.the-variants.{MissingHour, ResidualNegative, ResidualTooLarge, CurveTooLarge, SpanFault}
-use Rattle.answer.specs.declared.Refusal.the-variants.{EnergyTooLarge, NothingToFollow, PeriodisedTooLarge, WrongCount, WrongLength, NotRefixed, WholeExceeded}
+use Rattle.answer.specs.declared.Refusal.the-variants.{EnergyTooLarge, NothingToFollow, PeriodisedTooLarge, WrongCount, WrongLength, NotRefixed, WholeExceeded, DifferenceTooLarge}
 use Rattle.answer.specs.declared.Answer.{Answer}
 use Rattle.answer.specs.declared.Answer.the-variants.{Done, Refused}
 use Rattle.rules.specs.Refusals as R
@@ -28,6 +28,7 @@ readBack R.wrongCount = WrongCount
 readBack R.wrongLength = WrongLength
 readBack R.notRefixed = NotRefixed
 readBack R.wholeExceeded = WholeExceeded
+readBack R.differenceTooLarge = DifferenceTooLarge
 
 read-back : (r : Refusal) → readBack (named r) ≡ r
 read-back FileFault = refl
@@ -48,6 +49,7 @@ read-back WrongCount = refl
 read-back WrongLength = refl
 read-back NotRefixed = refl
 read-back WholeExceeded = refl
+read-back DifferenceTooLarge = refl
 
 abbrev answerBack : R.Verdict → Answer
 answerBack R.accepted = Done

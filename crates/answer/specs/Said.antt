@@ -2,7 +2,7 @@
 use Rattle.answer.specs.declared.Refusal.{Refusal}
 use Rattle.answer.specs.declared.Refusal.the-variants.{FileFault, UnknownKind, OutOfOrder, OutOfRange, GlnFault, WOutOfRange}
 use Rattle.answer.specs.declared.Refusal.the-variants.{MissingHour, ResidualNegative, ResidualTooLarge, CurveTooLarge, SpanFault}
-use Rattle.answer.specs.declared.Refusal.the-variants.{EnergyTooLarge, NothingToFollow, PeriodisedTooLarge, WrongCount, WrongLength, NotRefixed, WholeExceeded}
+use Rattle.answer.specs.declared.Refusal.the-variants.{EnergyTooLarge, NothingToFollow, PeriodisedTooLarge, WrongCount, WrongLength, NotRefixed, WholeExceeded, DifferenceTooLarge}
 use Rattle.answer.specs.declared.Answer.{Answer}
 use Rattle.answer.specs.declared.Answer.the-variants.{Done, Refused}
 use Rattle.rules.specs.Refusals as R
@@ -26,6 +26,7 @@ named WrongCount = R.wrongCount
 named WrongLength = R.wrongLength
 named NotRefixed = R.notRefixed
 named WholeExceeded = R.wholeExceeded
+named DifferenceTooLarge = R.differenceTooLarge
 
 abbrev pub said : Answer → R.Verdict
 said Done = R.accepted

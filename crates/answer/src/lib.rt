@@ -22,6 +22,7 @@ pub enum Refusal {
     WrongLength,
     NotRefixed,
     WholeExceeded,
+    DifferenceTooLarge,
 }
 
 // The answer of a call that gives nothing but what it writes.
@@ -53,6 +54,7 @@ pub fn number(r: Refusal) -> u8
         Refusal::WrongLength => 16,
         Refusal::NotRefixed => 17,
         Refusal::WholeExceeded => 18,
+        Refusal::DifferenceTooLarge => 19,
     }
 }
 

@@ -57,6 +57,9 @@ pub const MOST_MONTHS: usize = 13;
 // "distributed outside -1..2,000,000,001" (Refusal numbers, reconciliation of one hour)
 pub const GREATEST_DISTRIBUTED_WH: i64 = 2_000_000_001;
 
+// W6: "a difference beyond 2,000,000,001 Wh of either sign"
+pub const GREATEST_DIFFERENCE_WH: i64 = 2_000_000_001;
+
 // "Each hour has a status: 0 missing, 1 measured, 2 estimated." (From flows to the curve)
 pub const MISSING: u8 = 0;
 

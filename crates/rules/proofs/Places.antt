@@ -173,7 +173,6 @@ module _ {h p a f r q g : ℕ} (c : Counts h p a f r q g) where
   all-parties : f ≡ h → 0 < h → a ≡ p
   all-parties e b = c .parties-first (omega arith)
 
-
 -- One record more, of each kind.
 module _ (file : List ℕ) (m : MonthFile) (s : Sound m) (offset : ℕ) (p : Placed file m offset) where
   place-heading : (h : Heading) → due m (heading h) ≡ true → 0 < h .hours → Standing file offset (heading h) → Placed file (with m (heading h)) (offset + 10)

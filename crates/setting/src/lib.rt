@@ -1,5 +1,6 @@
-// The setting of a call on a whole file (02, W1 "Do not settle silently on fixed figures"): what the caller says of the month, final or provisional, and the
-// refusal of a final run of a month that has no refixed series. The setting is handed by value from the call to the reading of each record.
+// The setting of a call on a whole file: what the caller says of the month, final or provisional (02, W1 "Do not settle silently on fixed figures"), with the
+// refusal of a final run of a month that has no refixed series; and whether its prices are needed (02, W6 "Quantities first, amounts later"), which is handed by
+// value from the call to the reading of each record.
 use answer::Answer;
 use answer::Refusal;
 ghost use Rattle.setting.specs.Asked.{Promised};
@@ -7,6 +8,12 @@ ghost use Rattle.setting.specs.Asked.{Promised};
 pub enum Setting {
     Final,
     Provisional,
+}
+
+// W6: "A file for the first alone may have no 05 records; the statement program goes on refusing such a file with 3."
+pub enum Prices {
+    Needed,
+    Optional,
 }
 
 // "17, no refixed series in a final run, place 0": by the number of 06 records.

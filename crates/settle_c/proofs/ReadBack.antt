@@ -4,7 +4,7 @@ use Prim.Native.Nat.{ℕ, _+_, _*_, _≤_, _<_, _%_, _/_}
 use native.Mathlib.Omega.{arith}
 use Rattle.rules.specs.Refusals.{Refusal, refused, numberOf, fileFault, unknownKind, outOfOrder, outOfRange, glnFault, wOutOfRange}
 use Rattle.rules.specs.Refusals.{missingHour, residualNegative, residualTooLarge, curveTooLarge, spanFault, energyTooLarge, nothingToFollow, periodisedTooLarge, wrongCount, wrongLength, notRefixed}
-use Rattle.rules.specs.Refusals.{wholeExceeded}
+use Rattle.rules.specs.Refusals.{wholeExceeded, differenceTooLarge}
 use Rattle.settle_c.specs.Coded.{greatestPlace, numberAt, coded}
 use Rattle.settle_c.proofs.Told.{within-place}
 
@@ -27,6 +27,7 @@ number-small wrongCount = (omega arith, omega arith)
 number-small wrongLength = (omega arith, omega arith)
 number-small notRefixed = (omega arith, omega arith)
 number-small wholeExceeded = (omega arith, omega arith)
+number-small differenceTooLarge = (omega arith, omega arith)
 
 -- the number is the answer's remainder by 256, the place its quotient, and a refusal is never 0
 pub read-number : (r : Refusal) (place : ℕ) → place ≤ greatestPlace → coded (refused r place) % 256 ≡ numberOf r

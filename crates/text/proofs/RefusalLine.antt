@@ -5,7 +5,7 @@ use Prim.Native.Nat.{ℕ, _≤_, _<_}
 use native.Mathlib.Omega.{arith}
 use lib.ListN.{length, length-append}
 use Rattle.rules.specs.Refusals.{Refusal, fileFault, unknownKind, outOfOrder, outOfRange, glnFault, wOutOfRange, missingHour, residualNegative}
-use Rattle.rules.specs.Refusals.{residualTooLarge, curveTooLarge, spanFault, energyTooLarge, nothingToFollow, periodisedTooLarge, wrongCount, wrongLength, notRefixed, wholeExceeded}
+use Rattle.rules.specs.Refusals.{residualTooLarge, curveTooLarge, spanFault, energyTooLarge, nothingToFollow, periodisedTooLarge, wrongCount, wrongLength, notRefixed, wholeExceeded, differenceTooLarge}
 use Rattle.rules.specs.Refusals.{numberOf}
 use Rattle.rules.specs.Statement.{decimal, newline, refusalLine}
 use Rattle.rules.specs.Words.{ascii}
@@ -32,6 +32,7 @@ two-digits wrongCount = omega arith
 two-digits wrongLength = omega arith
 two-digits notRefixed = omega arith
 two-digits wholeExceeded = omega arith
+two-digits differenceTooLarge = omega arith
 
 module _ (r : Refusal) {n : ℕ} (number : n ≡ numberOf r) {b m : List ℕ} {q : ℕ} (h : Put (ascii "refused " ++ decimal n) b 0 m q) where
   pub number-ends : q ≤ 10

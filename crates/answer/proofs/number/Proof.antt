@@ -118,6 +118,12 @@ enum-told-18 c = search needs
 returns-18 : tie.Need-returns-18
 returns-18 c = numbered (c .enum-told18 .given .1)
 
+enum-told-19 : tie.Need-enum-told-19
+enum-told-19 c = search needs
+
+returns-19 : tie.Need-returns-19
+returns-19 c = numbered (c .enum-told19 .given .1)
+
 pub number-spec : {M : Type 1} → statement M
 number-spec =
     tie.close
@@ -139,7 +145,7 @@ number-spec =
     enum-told-15
     enum-told-16
     enum-told-17
-    enum-told-18
+    enum-told-18 enum-told-19
     returns
     returns-2
     returns-3
@@ -157,4 +163,4 @@ number-spec =
     returns-15
     returns-16
     returns-17
-    returns-18)
+    returns-18 returns-19)
