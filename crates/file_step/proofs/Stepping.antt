@@ -1,6 +1,6 @@
 -- One record: why a step's numbers say what the rules say of the month read so far. The numbers are the lengths of the month's lists, so a record is due by
 -- them exactly where it is due; the rest of the checks are the record's own; and the numbers with one record more stand for the month with one record more.
-use mathlib.Core.Bool.{Bool, true, false, cond, _||_}
+use mathlib.Core.Bool.{Bool, true, false, cond, _&&_, _||_}
 use mathlib.Core.List.{List, [], _∷_, _++_}
 use mathlib.Core.Path.{_≡_, refl, sym, _∙_, ap, ap₂, subst}
 use Prim.Native.Nat.{ℕ, suc, _+_, _≤_}
@@ -19,14 +19,16 @@ use Rattle.record.specs.declared.Brp as CBrp
 use Rattle.record.specs.declared.Brp.the-variants.{Own, Named}
 use Rattle.record.specs.declared.Record.{Record}
 use Rattle.record.specs.declared.Record.the-variants.{Heading, Party, FixedHour, Reading, Price, RefixedHour, End}
-use Rattle.setting.specs.Asked.{asked}
+use Rattle.setting.specs.Asked.{pricesAsked}
+use Rattle.setting.specs.declared.Prices.{Prices}
+use Rattle.setting.specs.declared.Prices.the-variants.{Needed, Optional}
 use Rattle.file_step.specs.declared.Walk.{Walk}
 use Rattle.file_step.specs.declared.Step.the-variants as S
 use Rattle.file_step.specs.Walk as W
-use Rattle.file_step.specs.Walk.{dueIn, withIn, kindOfTheLast, movedIn, Stands, StepMeans, judgedIn}
+use Rattle.file_step.specs.Walk.{hoursIn, unlessNeeded, afterPricesIn, dueIn, withIn, kindOfTheLast, movedIn, Stands, StepMeans, judgedIn}
 use Rattle.rules.specs.Gln.{validGln, digitsOnto, rises}
 use Rattle.rules.specs.Limits.{greatestShare}
-use Rattle.rules.specs.MonthFile.{MonthFile, H, P, due, afterTheLast, alikeAfter, risesAfter, recordChecks, isEnd}
+use Rattle.rules.specs.MonthFile.{MonthFile, H, P, hoursThere, pricesThere, due, allPriced, pricedFor, afterTheLast, alikeAfter, risesAfter, recordChecks, isEnd}
 use Rattle.rules.specs.MonthFile as F
 use Rattle.rules.specs.Record as R
 use Rattle.rules.specs.Refusals as Refused
@@ -58,6 +60,30 @@ like-the-last (q ∷ (x ∷ l)) p =
 one-more : {A : Type 0} (l : List A) {n : ℕ} (x : A) → n ≡ length l → n + 1 ≡ length (l ++ (x ∷ []))
 one-more l x e = ap (λ (k : ℕ). k + 1) e ∙ sym (length-append l (x ∷ []))
 
+-- two tests that refuse alike are one
+two-in-order : (a b : Bool) (n : ℕ) (later : Verdict) → andThen (unless a outOfOrder n) (andThen (unless b outOfOrder n) later) ≡ andThen (unless (b && a) outOfOrder n) later
+unfolding unless andThen
+two-in-order true true n later = refl
+two-in-order true false n later = refl
+two-in-order false true n later = refl
+two-in-order false false n later = refl
+
+-- all prices where they are needed; or none where they are not
+abbrev needsAll : Prices → Bool → Bool
+needsAll Needed all = all
+needsAll Optional all = true
+
+by-need : (p : Prices) (a b c : Bool) → needsAll p b && (a && (b || c)) ≡ (b || unlessNeeded p c) && a
+by-need Needed true true c = refl
+by-need Needed false true c = refl
+by-need Needed a false c = refl
+by-need Optional true true c = refl
+by-need Optional false true c = refl
+by-need Optional true false true = refl
+by-need Optional false false true = refl
+by-need Optional true false false = refl
+by-need Optional false false false = refl
+
 module _ (m : MonthFile) (w : Walk) (st : Stands m w) where
   hours-are : H m ≡ w .heading .hours
   unfolding H
@@ -71,15 +97,29 @@ module _ (m : MonthFile) (w : Walk) (st : Stands m w) where
   kind-is Own brpGln = refl
   kind-is Named brpGln = refl
 
-  pub due-is : (beside : Glns) (r : Record) → due m (recordOf beside r) ≡ dueIn w r
-  unfolding due
+  abbrev prices-asked : Prices
+  prices-asked = w .«prices_asked»
+
+  all-priced : (p : Prices) → allPriced (pricesAsked p) m ≡ needsAll p (eqb (w .prices) (w .heading .hours))
+  unfolding allPriced
+  all-priced Needed = rw (hours-are, ← st .prices)
+  all-priced Optional = refl
+
+  after-prices : allPriced (pricesAsked prices-asked) m && (leb 1 (H m) && pricesThere m) ≡ afterPricesIn w
+  unfolding pricesThere hoursThere
+  after-prices =
+      rw (all-priced prices-asked, hours-are, ← st .fixed, ← st .refixed, ← st .prices)
+      (by-need prices-asked (leb 1 (w .heading .hours)) (eqb (w .prices) (w .heading .hours)) (eqb (w .prices) 0 && hoursIn w))
+
+  pub due-is : (beside : Glns) (r : Record) → pricedFor (pricesAsked prices-asked) m (recordOf beside r) && due m (recordOf beside r) ≡ dueIn w r
+  unfolding hoursThere due pricedFor
   due-is beside (Heading h) = rw hours-are
   due-is beside (Party brp share) = rw (like-the-last (m .parties), parties-are, ← st .parties, ← st .kind, kind-is brp (beside .brpGln))
   due-is beside (FixedHour hour f) = rw (hours-are, parties-are, ← st .parties, ← st .fixed)
-  due-is beside (Reading r) = rw (hours-are, ← st .prices)
-  due-is beside (Price hour p) = rw (hours-are, ← st .fixed, ← st .refixed, ← st .prices)
-  due-is beside (RefixedHour hour f) = rw (hours-are, ← st .fixed, ← st .refixed, ← st .prices)
-  due-is beside (End count) = rw (hours-are, ← st .prices)
+  due-is beside (Reading r) = after-prices
+  due-is beside (Price hour p) = rw (hours-are, ← st .fixed, ← st .refixed, ← st .prices, ← st .readings)
+  due-is beside (RefixedHour hour f) = rw (hours-are, ← st .fixed, ← st .refixed, ← st .prices, ← st .readings)
+  due-is beside (End count) = after-prices
 
   abbrev partyIn : Glns → CBrp.Brp → ℕ → R.Party
   partyIn beside brp share = record { gln = beside .gln; brp = brpOf brp (beside .brpGln); share = share }
@@ -236,7 +276,7 @@ module _ (m : MonthFile) (w : Walk) (st : Stands m w) (bytes : List ℕ) (size :
   here = w .records
 
   abbrev verdict-here : Verdict
-  verdict-here = first (recordChecks (asked (w .setting)) m here bytes)
+  verdict-here = first (recordChecks (pricesAsked (w .«prices_asked»)) m here bytes)
 
   goes-on :
       (number : ℕ) (x : Record) → recordOf beside x ≡ R.recordAt bytes → isEnd (recordOf beside x) ≡ false → Kept m w st beside number x
@@ -304,7 +344,7 @@ module _ (m : MonthFile) (w : Walk) (st : Stands m w) (bytes : List ℕ) where
   n = w .records
 
   abbrev verdict : Verdict
-  verdict = first (recordChecks (asked (w .setting)) m n bytes)
+  verdict = first (recordChecks (pricesAsked (w .«prices_asked»)) m n bytes)
 
   abbrev kind : ℕ
   kind = R.kindAt bytes
@@ -333,7 +373,8 @@ module _ (m : MonthFile) (w : Walk) (st : Stands m w) (bytes : List ℕ) where
       unfolding recordChecks first andThen unless
       from-order =
           rw (← is-r, known, le-leb (1 + R.bodyLength kind) (length bytes) fits)
-          (ap (λ (t : Bool). andThen (unless t outOfOrder n) (inFile m n (recordOf beside r))) (due-is m w st beside r))
+          (two-in-order (due m (recordOf beside r)) (pricedFor (pricesAsked (w .«prices_asked»)) m (recordOf beside r)) n (inFile m n (recordOf beside r))
+          ∙ ap (λ (t : Bool). andThen (unless t outOfOrder n) (inFile m n (recordOf beside r))) (due-is m w st beside r))
 
       -- 3
       pub not-due : dueIn w r ≡ false → verdict ≡ refused outOfOrder n

@@ -13,8 +13,9 @@ use Rattle.gln.specs.declared.Gln.the-variants.{Valid, Invalid}
 use Rattle.record.specs.Record.{kindOfBrp, headingOf}
 use Rattle.record.specs.declared.Record.{Record}
 use Rattle.record.specs.declared.Record.the-variants.{Heading, Party, FixedHour, Reading, Price, RefixedHour, End}
-use Rattle.setting.specs.Asked.{asked}
-use Rattle.setting.specs.declared.Setting.{Setting}
+use Rattle.setting.specs.Asked.{pricesAsked}
+use Rattle.setting.specs.declared.Prices.{Prices}
+use Rattle.setting.specs.declared.Prices.the-variants.{Needed, Optional}
 use Rattle.file_step.specs.declared.Walk.{Walk}
 use Rattle.file_step.specs.declared.Step.{Step}
 use Rattle.file_step.specs.declared.Step.the-variants as S
@@ -26,10 +27,10 @@ use Rattle.rules.specs.Record as RRecord
 use Rattle.rules.specs.Refusals.{accepted, refused, first}
 
 -- nothing read yet
-abbrev pub startOf : Setting → Walk
-startOf setting =
+abbrev pub startOf : Prices → Walk
+startOf asked =
     record {
-      setting = setting;
+      «prices_asked» = asked;
       records = 0;
       heading = record { area = 0; year = 0; month = 0; hours = 0; parties = 0; carrier = 0 };
       parties = 0;
@@ -41,25 +42,36 @@ startOf setting =
       «party_kind» = 0;
     }
 
--- the order of the records, by numbers: law `due-is` reads it as the rules' `due`
+-- H times 03, and none or H times 06
+abbrev pub hoursIn : Walk → Bool
+hoursIn w = eqb (w .fixed) (w .heading .hours) && (eqb (w .refixed) 0 || eqb (w .refixed) (w .heading .hours))
+
+-- where the prices are not needed, there may be none of them
+abbrev pub unlessNeeded : Prices → Bool → Bool
+unlessNeeded Needed none = false
+unlessNeeded Optional none = none
+
+-- whether what comes after the prices is due
+abbrev pub afterPricesIn : Walk → Bool
+afterPricesIn w =
+    (eqb (w .prices) (w .heading .hours) || unlessNeeded (w .«prices_asked») (eqb (w .prices) 0 && hoursIn w)) && leb 1 (w .heading .hours)
+
+-- the order of the records, by numbers: law `due-is` reads it as the rules' `due` and `pricedFor`
 abbrev pub dueIn : Walk → Record → Bool
 dueIn w (Heading h) = eqb (w .heading .hours) 0
 dueIn w (Party brp share) = ltb (w .parties) (w .heading .parties) && (eqb (w .parties) 0 || eqb (w .«party_kind») (kindOfBrp brp))
 dueIn w (FixedHour hour f) = eqb (w .parties) (w .heading .parties) && ltb (w .fixed) (w .heading .hours) && eqb hour (w .fixed)
-dueIn w (Reading r) = leb 1 (w .heading .hours) && eqb (w .prices) (w .heading .hours)
-dueIn w (Price hour p) =
-    eqb (w .fixed) (w .heading .hours) && (eqb (w .refixed) 0 || eqb (w .refixed) (w .heading .hours))
-    && ltb (w .prices) (w .heading .hours)
-    && eqb hour (w .prices)
+dueIn w (Reading r) = afterPricesIn w
+dueIn w (Price hour p) = hoursIn w && ltb (w .prices) (w .heading .hours) && eqb (w .readings) 0 && eqb hour (w .prices)
 dueIn w (RefixedHour hour f) =
-    eqb (w .fixed) (w .heading .hours) && ltb (w .refixed) (w .heading .hours) && eqb (w .prices) 0 && eqb hour (w .refixed)
-dueIn w (End count) = leb 1 (w .heading .hours) && eqb (w .prices) (w .heading .hours)
+    eqb (w .fixed) (w .heading .hours) && ltb (w .refixed) (w .heading .hours) && eqb (w .prices) 0 && eqb (w .readings) 0 && eqb hour (w .refixed)
+dueIn w (End count) = afterPricesIn w
 
 -- with one record more; of a party the number of its GLN and its record's kind are kept
 abbrev pub withIn : Walk → Record → ℕ → Walk
 withIn w (Heading h) number =
     record {
-      setting = w .setting;
+      «prices_asked» = w .«prices_asked»;
       records = w .records + 1;
       heading = h;
       parties = w .parties;
@@ -72,7 +84,7 @@ withIn w (Heading h) number =
     }
 withIn w (Party brp share) number =
     record {
-      setting = w .setting;
+      «prices_asked» = w .«prices_asked»;
       records = w .records + 1;
       heading = w .heading;
       parties = w .parties + 1;
@@ -85,7 +97,7 @@ withIn w (Party brp share) number =
     }
 withIn w (FixedHour hour f) number =
     record {
-      setting = w .setting;
+      «prices_asked» = w .«prices_asked»;
       records = w .records + 1;
       heading = w .heading;
       parties = w .parties;
@@ -98,7 +110,7 @@ withIn w (FixedHour hour f) number =
     }
 withIn w (Reading r) number =
     record {
-      setting = w .setting;
+      «prices_asked» = w .«prices_asked»;
       records = w .records + 1;
       heading = w .heading;
       parties = w .parties;
@@ -111,7 +123,7 @@ withIn w (Reading r) number =
     }
 withIn w (Price hour p) number =
     record {
-      setting = w .setting;
+      «prices_asked» = w .«prices_asked»;
       records = w .records + 1;
       heading = w .heading;
       parties = w .parties;
@@ -124,7 +136,7 @@ withIn w (Price hour p) number =
     }
 withIn w (RefixedHour hour f) number =
     record {
-      setting = w .setting;
+      «prices_asked» = w .«prices_asked»;
       records = w .records + 1;
       heading = w .heading;
       parties = w .parties;
@@ -137,7 +149,7 @@ withIn w (RefixedHour hour f) number =
     }
 withIn w (End count) number =
     record {
-      setting = w .setting;
+      «prices_asked» = w .«prices_asked»;
       records = w .records + 1;
       heading = w .heading;
       parties = w .parties;
@@ -182,16 +194,16 @@ pub record Stands (m : MonthFile) (w : Walk) : Type 0 where
 -- what a step says of the record at the start of the bytes, for the month that has been read so far
 abbrev pub StepMeans : Walk → List ℕ → MonthFile → Step → Type 0
 StepMeans w bytes m (S.Next v size) =
-    (first (recordChecks (asked (w .setting)) m (w .records) bytes) ≡ accepted) × (isEnd (RRecord.recordAt bytes) ≡ false)
+    (first (recordChecks (pricesAsked (w .«prices_asked»)) m (w .records) bytes) ≡ accepted) × (isEnd (RRecord.recordAt bytes) ≡ false)
     × Stands (F.with m (RRecord.recordAt bytes)) v
-StepMeans w bytes m S.End = (first (recordChecks (asked (w .setting)) m (w .records) bytes) ≡ accepted) × (isEnd (RRecord.recordAt bytes) ≡ true)
-StepMeans w bytes m (S.Refused r place) = first (recordChecks (asked (w .setting)) m (w .records) bytes) ≡ refused (named r) place
+StepMeans w bytes m S.End = (first (recordChecks (pricesAsked (w .«prices_asked»)) m (w .records) bytes) ≡ accepted) × (isEnd (RRecord.recordAt bytes) ≡ true)
+StepMeans w bytes m (S.Refused r place) = first (recordChecks (pricesAsked (w .«prices_asked»)) m (w .records) bytes) ≡ refused (named r) place
 
--- of a step that goes on: so many bytes further, one record more, under the same setting
+-- of a step that goes on: so many bytes further, one record more, the prices needed or not as before
 abbrev pub StepMoves : Walk → List ℕ → Step → Type 0
 StepMoves w bytes (S.Next v size) =
     (size ≡ 1 + RRecord.bodyLength (RRecord.kindAt bytes)) × (v .records ≡ w .records + 1) × Counted v × (size ≤ length bytes)
-    × (v .setting ≡ w .setting)
+    × (v .«prices_asked» ≡ w .«prices_asked»)
 StepMoves w bytes S.End = (RRecord.bodyLength (RRecord.kindAt bytes) ≡ 4) × (5 ≤ length bytes)
 StepMoves w bytes (S.Refused r place) = Unit
 

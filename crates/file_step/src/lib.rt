@@ -5,16 +5,16 @@ use answer::Refusal;
 use gln::Gln;
 use record::Heading;
 use record::Record;
-use setting::Setting;
+use setting::Prices;
 ghost use mathlib.Core.Path.{_≡_};
 ghost use Prim.Native.Nat.{_≤_};
 ghost use Rattle.record.specs.Record.{glnsIn};
-ghost use Rattle.file_step.specs.Walk.{startOf, dueIn, withIn, Few, Steppable, Stepped, movedIn, risenIn, countedIn, judgedIn};
+ghost use Rattle.file_step.specs.Walk.{startOf, hoursIn, afterPricesIn, dueIn, withIn, Few, Steppable, Stepped, movedIn, risenIn, countedIn, judgedIn};
 
-// How far the reading of a file has come: under which setting it is read, the records before, the heading (H and P are 0 until it is read), how many of each
-// kind, and of the last party the number of its GLN and its record's kind.
+// How far the reading of a file has come: whether its prices are needed, the records before, the heading (H and P are 0 until it is read), how many of each kind,
+// and of the last party the number of its GLN and its record's kind.
 pub struct Walk {
-    pub setting: Setting,
+    pub prices_asked: Prices,
     pub records: usize,
     pub heading: Heading,
     pub parties: usize,
@@ -34,11 +34,11 @@ pub enum Step {
 }
 
 // Nothing read yet.
-pub fn start(setting: Setting) -> Walk
-    ensures { λ w. ⌜ w ≡ startOf setting ⌝ }
+pub fn start(prices_asked: Prices) -> Walk
+    ensures { λ w. ⌜ w ≡ startOf «prices_asked» ⌝ }
 {
     Walk {
-        setting,
+        prices_asked,
         records: 0,
         heading: Heading {
             area: 0,
@@ -58,8 +58,32 @@ pub fn start(setting: Setting) -> Walk
     }
 }
 
+// "H times 03; none or H times 06"
+fn hours_there(w: Walk) -> bool
+    ensures { λ d. ⌜ d ≡ hoursIn w ⌝ }
+{
+    let hours = w.heading.hours as usize;
+    (w.fixed == hours) & ((w.refixed == 0) | (w.refixed == hours))
+}
+
+// Whether a reading or the end is due: the prices are all there, or there are none and none is needed. W6: "A file for the first alone may have no 05 records;
+// the statement program goes on refusing such a file with 3."
+fn after_prices(w: Walk) -> bool
+    ensures { λ d. ⌜ d ≡ afterPricesIn w ⌝ }
+{
+    let hours = w.heading.hours as usize;
+    if w.prices == hours {
+        return 1 <= hours;
+    }
+    let asked = w.prices_asked;
+    match asked {
+        Prices::Needed => false,
+        Prices::Optional => (w.prices == 0) & hours_there(w) & (1 <= hours),
+    }
+}
+
 // "Order: one 01; P times 02; H times 03; none or H times 06; H times 05; any number of 04; one 07. Hour fields run 0, 1, 2 and so on". W5: "a mixture of 02 and
-// 12 is 3".
+// 12 is 3". W6: none or H times 05.
 fn due(w: Walk, r: Record) -> bool
     ensures { λ d. ⌜ d ≡ dueIn w r ⌝ }
 {
@@ -72,16 +96,17 @@ fn due(w: Walk, r: Record) -> bool
         Record::FixedHour(hour, _) => (w.parties == parties)
             & (w.fixed < hours)
             & (hour as usize == w.fixed),
-        Record::Reading(_) => (1 <= hours) & (w.prices == hours),
-        Record::Price(hour, _) => (w.fixed == hours)
-            & ((w.refixed == 0) | (w.refixed == hours))
+        Record::Reading(_) => after_prices(w),
+        Record::Price(hour, _) => hours_there(w)
             & (w.prices < hours)
+            & (w.readings == 0)
             & (hour as usize == w.prices),
         Record::RefixedHour(hour, _) => (w.fixed == hours)
             & (w.refixed < hours)
             & (w.prices == 0)
+            & (w.readings == 0)
             & (hour as usize == w.refixed),
-        Record::End(_) => (1 <= hours) & (w.prices == hours),
+        Record::End(_) => after_prices(w),
     }
 }
 
