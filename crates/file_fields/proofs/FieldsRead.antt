@@ -21,31 +21,31 @@ use Rattle.rules.specs.Brp.{brpOf}
 use Rattle.rules.specs.Month.{monthOf, flowsAt, partyAt, priceAt, shareOf}
 use Rattle.rules.specs.MonthFile.{P}
 use Rattle.rules.specs.Record.{ownBrp, brpGln}
-use Rattle.rules.specs.Setting.{provisional}
+use Rattle.rules.specs.Setting.{optional}
 use Rattle.rules.proofs.RoundTrip.{valid-length}
 use Rattle.rules.proofs.Whole.{every-at, PartyRight}
 
 module _ (file : List ℕ) (s : Sections) (ok : Accepted file s) where
   pub fixed-read : {t : ℕ} {f : CFlows.Flows} → FixedIs file t f → flowsOf f ≡ flowsAt (monthOf file .fixed) t
-  fixed-read p = p .is provisional (monthOf file) (read-as file s ok provisional)
+  fixed-read p = p .is optional (monthOf file) (read-as optional file s ok)
 
   pub refixed-read : {t : ℕ} {f : CFlows.Flows} → RefixedIs file t f → flowsOf f ≡ flowsAt (monthOf file .refixed) t
-  refixed-read p = p .is provisional (monthOf file) (read-as file s ok provisional)
+  refixed-read p = p .is optional (monthOf file) (read-as optional file s ok)
 
   pub price-read : {t : ℕ} {z : ℤ} → PriceIs file t z → z ≡ priceAt (monthOf file) t
-  price-read p = p .is provisional (monthOf file) (read-as file s ok provisional)
+  price-read p = p .is optional (monthOf file) (read-as optional file s ok)
 
   pub share-read : {i n : ℕ} → ShareIs file i n → n ≡ shareOf (monthOf file) i
-  share-read p = p .is provisional (monthOf file) (read-as file s ok provisional)
+  share-read p = p .is optional (monthOf file) (read-as optional file s ok)
 
   pub gln-read : {i : ℕ} {gln : List ℕ} → GlnIs file i gln → gln ≡ partyAt (monthOf file) i .gln
-  gln-read p = p .is provisional (monthOf file) (read-as file s ok provisional)
+  gln-read p = p .is optional (monthOf file) (read-as optional file s ok)
 
   pub brp-gln-read : {i : ℕ} {gln : List ℕ} → BrpGlnIs file i gln → gln ≡ brpGln (partyAt (monthOf file) i)
-  brp-gln-read p = p .is provisional (monthOf file) (read-as file s ok provisional)
+  brp-gln-read p = p .is optional (monthOf file) (read-as optional file s ok)
 
   pub brp-number-read : {i n : ℕ} → BrpNumberIs file i n → n ≡ brpOf (monthOf file) i
-  brp-number-read p = p .is provisional (monthOf file) (read-as file s ok provisional)
+  brp-number-read p = p .is optional (monthOf file) (read-as optional file s ok)
 
   -- a party within its rules
   pub party-right : {i : ℕ} → i < P (monthOf file) → PartyRight (partyAt (monthOf file) i)
@@ -71,7 +71,7 @@ module _ (file : List ℕ) (s : Sections) (i : ℕ) (a : PartyAsked file s i) {g
   unfolding brpOf
   number-is {n} e =
       let same : n ≡ digitsOnto 0 gln = let both : Valid n ≡ Valid (digitsOnto 0 gln) = sym e ∙ answered in cc in
-      record { is = λ setting m read. same ∙ ap (digitsOnto 0) (is .is setting m read) }
+      record { is = λ prices m read. same ∙ ap (digitsOnto 0) (is .is prices m read) }
 
   pub never-invalid : g ≡ Invalid → ⊥
   never-invalid e = let both : Invalid ≡ Valid (digitsOnto 0 gln) = sym e ∙ answered in let z : _≡_ {A = ℕ} 0 1 = cc in omega arith

@@ -15,14 +15,14 @@ use Rattle.record.specs.declared.Reading as CReading
 use Rattle.file_step.specs.Walk.{kindOfTheLast}
 use Rattle.file_sections.specs.declared.Sections.{Sections}
 use Rattle.file_sections.specs.Walk.{sectionsOf, Accepted}
-use Rattle.file_sections.proofs.AcceptedFile.{month-of, read-as, month-whole, sections-are, hours-are, parties-are, refixed-are, readings-are}
+use Rattle.file_sections.proofs.AcceptedFile.{month-of, read-as, month-whole, sections-are, hours-are, parties-are, refixed-are, prices-are, readings-are}
 use Rattle.file_fields.specs.Fields.{FixedAsked, RefixedAsked, PriceAsked, ReadingAsked, ReadingPlaced, PartyAsked, FixedIs, RefixedIs, PriceIs, ReadingIs, ShareIs, GlnIs, BrpGlnIs}
 use Rattle.file_fields.proofs.OneRecord.{priceIn, shareIn, brpShareIn, kind-there, fixed-there, refixed-there, price-there, size-there}
 use Rattle.file_fields.proofs.OneRecord.{either-kind, gln-there, named-share, named-brp, own-share, own-brp}
 use Rattle.rules.specs.Limits.{longestFile}
 use Rattle.rules.specs.Month.{monthOf, flowsAt, partyAt, priceAt, readingAt, shareOf}
 use Rattle.rules.specs.MonthFile.{MonthFile, H, P, readMonth}
-use Rattle.rules.specs.Setting.{Setting, provisional}
+use Rattle.rules.specs.Setting.{Prices, optional}
 use Rattle.rules.specs.Record as R
 use Rattle.rules.specs.Refusals.{given}
 use Rattle.rules.specs.Words.{at}
@@ -67,15 +67,15 @@ module _ (file : List ℕ) (s : Sections) (ok : Accepted file s) where
 
   starts :
       (s .«parties_at» ≡ 10) × (s .«fixed_at» ≡ fixedAt) × (s .«refixed_at» ≡ fixedAt + 36 * H m) × (s .«prices_at» ≡ pricesAt)
-      × (s .«readings_at» ≡ pricesAt + 7 * H m)
+      × (s .«readings_at» ≡ pricesAt + 7 * length (m .prices))
       × (s .«party_size» ≡ partySize)
   unfolding sectionsOf H P
   starts =
       let at : (f : Sections → ℕ) → f s ≡ f (sectionsOf m) = λ f. ap f (sections-are file s ok) in
       (at (λ x. x .«parties_at»), at (λ x. x .«fixed_at»), at (λ x. x .«refixed_at»), at (λ x. x .«prices_at»), at (λ x. x .«readings_at»), at (λ x. x .«party_size»))
 
-  placed : Placed file m (what-is-read-is-placed provisional file (read-as file s ok provisional) .0)
-  placed = what-is-read-is-placed provisional file (read-as file s ok provisional) .1
+  placed : Placed file m (what-is-read-is-placed optional file (read-as optional file s ok) .0)
+  placed = what-is-read-is-placed optional file (read-as optional file s ok) .1
 
   whole : W.Whole m
   whole = month-whole file s ok
@@ -102,9 +102,9 @@ module _ (file : List ℕ) (s : Sections) (ok : Accepted file s) where
       moved (omega (arith, starts .2, all-parties-before))
       (placed .refixed t (omega (arith, refixed-are file s ok)) (record { status = 0; net = pos 0; production = 0; hourly = 0; flex = 0 }))
 
-  price-stands : (t : ℕ) → t < s .heading .hours → Standing file (s .«prices_at» + 7 * t) (R.price t (priceAt m t))
+  price-stands : (t : ℕ) → t < s .prices → Standing file (s .«prices_at» + 7 * t) (R.price t (priceAt m t))
   unfolding priceAt
-  price-stands t b = moved (omega (arith, starts .3, all-parties-before)) (placed .prices t (omega (arith, hours-are file s ok, whole .all-prices)) (pos 0))
+  price-stands t b = moved (omega (arith, starts .3, all-parties-before)) (placed .prices t (omega (arith, prices-are file s ok)) (pos 0))
 
   pub reading-stands : (j : ℕ) → j < s .readings → Standing file (s .«readings_at» + sizesBefore R.reading (m .readings) j) (R.reading (readingAt m j))
   unfolding readingAt
@@ -135,8 +135,8 @@ enough file offset size e b = omega (arith, ap length e ∙ length-drop offset f
 -- Of a file with its sections: room for the record at each place, and what is read there (`OneRecord`).
 module _ (file : List ℕ) (s : Sections) where
   -- what is said of the file's month is said of any month that it is read as
-  said-of : (Says : MonthFile → Type 0) → Says (monthOf file) → (setting : Setting) (m : MonthFile) → readMonth setting file ≡ given m → Says m
-  said-of Says it setting m e = subst Says (month-of setting file e) it
+  said-of : (Says : MonthFile → Type 0) → Says (monthOf file) → (prices : Prices) (m : MonthFile) → readMonth prices file ≡ given m → Says m
+  said-of Says it prices m e = subst Says (month-of prices file e) it
 
   module _ (t : ℕ) (a : FixedAsked file s t) where
     fixed-here : Standing file (s .«fixed_at» + 36 * t) (R.fixedHour t (flowsAt (monthOf file .fixed) t))
@@ -284,7 +284,7 @@ one-byte-each (x ∷ l) zero b = omega arith
 one-byte-each (x ∷ l) (suc k) b = omega (arith, one-byte-each l k (omega arith))
 
 pub short-file : (file : List ℕ) (s : Sections) → Accepted file s → length file ≤ longestFile
-short-file file s ok = W.within-is 1 longestFile (length file) (W.of-the-right-length provisional file (read-as file s ok provisional) .0) .1
+short-file file s ok = W.within-is 1 longestFile (length file) (W.of-the-right-length optional file (read-as optional file s ok) .0) .1
 
 pub few-readings : (file : List ℕ) (s : Sections) → Accepted file s → s .readings ≤ longestFile
 few-readings file s ok =

@@ -14,7 +14,7 @@ use Rattle.rules.specs.Brp.{brpOf}
 use Rattle.rules.specs.Month.{flowsAt, partyAt, priceAt, shareOf, monthOf}
 use Rattle.rules.specs.MonthFile.{MonthFile, readMonth}
 use Rattle.rules.specs.Record.{readingKind, longReadingKind, reading, brpGln, kindAt, recordAt}
-use Rattle.rules.specs.Setting.{Setting}
+use Rattle.rules.specs.Setting.{Prices}
 use Rattle.rules.specs.Refusals.{given}
 use Rattle.rules.proofs.Places.{sizesBefore}
 
@@ -28,7 +28,7 @@ pub record RefixedAsked (file : List ℕ) (s : Sections) (t : ℕ) : Type 0 wher
 
 pub record PriceAsked (file : List ℕ) (s : Sections) (t : ℕ) : Type 0 where
   pub accepted : Accepted file s
-  pub hour : t < s .heading .hours
+  pub hour : t < s .prices
 
 -- a reading of either kind stands whole at a byte
 pub record ReadingAsked (file : List ℕ) (place : ℕ) : Type 0 where
@@ -45,28 +45,28 @@ pub record PartyAsked (file : List ℕ) (s : Sections) (i : ℕ) : Type 0 where
   pub accepted : Accepted file s
   pub party : i < s .heading .parties
 
--- of the month that the file is read as, under either setting
+-- of the month that the file is read as, with its prices needed or not
 pub record FixedIs (file : List ℕ) (t : ℕ) (f : CFlows.Flows) : Type 0 where
-  pub is : (setting : Setting) (m : MonthFile) → readMonth setting file ≡ given m → flowsOf f ≡ flowsAt (m .fixed) t
+  pub is : (prices : Prices) (m : MonthFile) → readMonth prices file ≡ given m → flowsOf f ≡ flowsAt (m .fixed) t
 
 pub record RefixedIs (file : List ℕ) (t : ℕ) (f : CFlows.Flows) : Type 0 where
-  pub is : (setting : Setting) (m : MonthFile) → readMonth setting file ≡ given m → flowsOf f ≡ flowsAt (m .refixed) t
+  pub is : (prices : Prices) (m : MonthFile) → readMonth prices file ≡ given m → flowsOf f ≡ flowsAt (m .refixed) t
 
 pub record PriceIs (file : List ℕ) (t : ℕ) (z : ℤ) : Type 0 where
-  pub is : (setting : Setting) (m : MonthFile) → readMonth setting file ≡ given m → z ≡ priceAt m t
+  pub is : (prices : Prices) (m : MonthFile) → readMonth prices file ≡ given m → z ≡ priceAt m t
 
 -- the reading that stands there
 pub record ReadingIs (file : List ℕ) (place : ℕ) (x : CReading.Reading) : Type 0 where
   pub is : reading (readingOf x) ≡ recordAt (drop place file)
 
 pub record ShareIs (file : List ℕ) (i n : ℕ) : Type 0 where
-  pub is : (setting : Setting) (m : MonthFile) → readMonth setting file ≡ given m → n ≡ shareOf m i
+  pub is : (prices : Prices) (m : MonthFile) → readMonth prices file ≡ given m → n ≡ shareOf m i
 
 pub record GlnIs (file : List ℕ) (i : ℕ) (gln : List ℕ) : Type 0 where
-  pub is : (setting : Setting) (m : MonthFile) → readMonth setting file ≡ given m → gln ≡ partyAt m i .gln
+  pub is : (prices : Prices) (m : MonthFile) → readMonth prices file ≡ given m → gln ≡ partyAt m i .gln
 
 pub record BrpGlnIs (file : List ℕ) (i : ℕ) (gln : List ℕ) : Type 0 where
-  pub is : (setting : Setting) (m : MonthFile) → readMonth setting file ≡ given m → gln ≡ brpGln (partyAt m i)
+  pub is : (prices : Prices) (m : MonthFile) → readMonth prices file ≡ given m → gln ≡ brpGln (partyAt m i)
 
 pub record BrpNumberIs (file : List ℕ) (i n : ℕ) : Type 0 where
-  pub is : (setting : Setting) (m : MonthFile) → readMonth setting file ≡ given m → n ≡ brpOf m i
+  pub is : (prices : Prices) (m : MonthFile) → readMonth prices file ≡ given m → n ≡ brpOf m i

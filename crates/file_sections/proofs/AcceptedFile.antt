@@ -5,42 +5,46 @@ use Prim.Native.Nat.{ℕ}
 use native.Mathlib.Omega.{arith}
 use lib.ListN.{length}
 use Rattle.file_sections.specs.declared.Sections.{Sections}
-use Rattle.setting.specs.Asked.{asked}
-use Rattle.setting.specs.declared.Setting as Called
+use Rattle.setting.specs.Asked.{pricesAsked}
+use Rattle.setting.specs.declared.Prices as Called
 use Rattle.file_sections.specs.declared.MonthRead.the-variants as M
-use Rattle.file_sections.specs.Walk.{readAnswer, sectionsOf, Promised, Accepted}
+use Rattle.file_sections.specs.Walk.{readAnswer, sectionsOf, Promised, Read, Accepted, AcceptedPriced}
 use Rattle.rules.specs.Month.{monthRead, monthOf, estimatedHours}
 use Rattle.rules.specs.MonthFile.{MonthFile, H, P, readMonth}
 use Rattle.rules.specs.Refusals.{Answer, given, refusal}
-use Rattle.rules.specs.Setting.{Setting, provisional}
+use Rattle.rules.specs.Setting.{Prices, needed, optional}
 use Rattle.rules.specs.Statement.{headingText, headingLine}
 use Rattle.rules.proofs.Setting.{read-alike}
-use Rattle.rules.proofs.Whole.{Whole, what-is-read-is-whole}
+use Rattle.rules.proofs.Whole.{Whole, what-is-read-is-whole, what-is-read-is-priced}
 
-pub month-of : (setting : Setting) (file : List ℕ) {m : MonthFile} → readMonth setting file ≡ given m → monthOf file ≡ m
+pub month-of : (prices : Prices) (file : List ℕ) {m : MonthFile} → readMonth prices file ≡ given m → monthOf file ≡ m
 unfolding monthOf monthRead
-month-of setting file e = ap monthRead (read-alike provisional setting file ∙ e)
+month-of prices file e = ap monthRead (read-alike prices file e)
 
 month-in : (a : Answer MonthFile) {s : Sections} → readAnswer a ≡ given s → (m : MonthFile) × (a ≡ given m)
 month-in (given m) e = (m, refl)
 month-in (refusal r place) e = absurd (let z : _≡_ {A = ℕ} 0 1 = cc in omega arith)
 
--- what the reading accepted under a setting
-pub accepted-so : (setting : Called.Setting) (file : List ℕ) (s : Sections) → Promised setting file (M.Accepted s) → Accepted file s
-accepted-so setting file s e = record { is = ap readAnswer (read-alike provisional (asked setting) file) ∙ sym e }
+-- what the reading accepted
+pub accepted-so : (prices : Called.Prices) (file : List ℕ) (s : Sections) → Promised prices file (M.Accepted s) → Read (pricesAsked prices) file s
+accepted-so prices file s e = record { is = sym e }
+
+-- the file is read as its month
+pub read-as : (prices : Prices) (file : List ℕ) (s : Sections) → Read prices file s → readMonth prices file ≡ given (monthOf file)
+read-as prices file s ok = let m = month-in (readMonth prices file) (ok .is) in m .1 ∙ ap given (sym (month-of prices file (m .1)))
+
+-- with its prices needed or not
+pub read-without : (prices : Prices) (file : List ℕ) (s : Sections) → Read prices file s → Accepted file s
+read-without prices file s ok =
+    record { is = ap readAnswer (read-alike prices file (read-as prices file s ok) ∙ sym (read-as prices file s ok)) ∙ ok .is }
 
 module _ (file : List ℕ) (s : Sections) (ok : Accepted file s) where
-  as-its-month : readMonth provisional file ≡ given (monthOf file)
-  as-its-month =
-      let m = month-in (readMonth provisional file) (ok .is) in m .1 ∙ ap given (sym (month-of provisional file (m .1)))
-
-  -- the file is read as its month, under either setting
-  pub read-as : (setting : Setting) → readMonth setting file ≡ given (monthOf file)
-  read-as setting = read-alike setting provisional file ∙ as-its-month
+  as-its-month : readMonth optional file ≡ given (monthOf file)
+  as-its-month = read-as optional file s ok
 
   -- which is whole
   pub month-whole : Whole (monthOf file)
-  month-whole = what-is-read-is-whole provisional file as-its-month
+  month-whole = what-is-read-is-whole optional file as-its-month
 
   pub sections-are : s ≡ sectionsOf (monthOf file)
   sections-are = let same : given (sectionsOf (monthOf file)) ≡ given s = ap readAnswer (sym as-its-month) ∙ ok .is in cc
@@ -62,6 +66,10 @@ module _ (file : List ℕ) (s : Sections) (ok : Accepted file s) where
   unfolding sectionsOf
   refixed-are = ap (λ (x : Sections). x .refixed) sections-are
 
+  pub prices-are : s .prices ≡ length (monthOf file .prices)
+  unfolding sectionsOf
+  prices-are = ap (λ (x : Sections). x .prices) sections-are
+
   pub readings-are : s .readings ≡ length (monthOf file .readings)
   unfolding sectionsOf
   readings-are = ap (λ (x : Sections). x .readings) sections-are
@@ -73,3 +81,9 @@ module _ (file : List ℕ) (s : Sections) (ok : Accepted file s) where
   unfolding headingLine H P sectionsOf
   heading-text counted =
       ap₂ (λ (x : Sections) (k : ℕ). headingText (x .heading .area) (x .heading .year) (x .heading .month) (x .heading .hours) (x .heading .parties) k (x .refixed)) sections-are counted
+
+-- WHERE THE PRICES ARE NEEDED, there is one for each hour
+pub all-priced : (file : List ℕ) (s : Sections) → AcceptedPriced file s → s .prices ≡ s .heading .hours
+all-priced file s ok =
+    let as-without : Accepted file s = read-without needed file s ok in
+    prices-are file s as-without ∙ what-is-read-is-priced needed file (read-as needed file s ok) ∙ sym (hours-are file s as-without)

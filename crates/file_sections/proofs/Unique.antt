@@ -7,7 +7,7 @@ use Rattle.answer.proofs.Said.{named-once}
 use Rattle.file_sections.specs.declared.MonthRead.{MonthRead}
 use Rattle.file_sections.specs.declared.MonthRead.the-variants.{Accepted, Refused}
 use Rattle.file_sections.specs.Walk.{told, Promised}
-use Rattle.setting.specs.declared.Setting.{Setting}
+use Rattle.setting.specs.declared.Prices.{Prices}
 
 told-once : (a b : MonthRead) → told a ≡ told b → a ≡ b
 told-once (Accepted s) (Accepted t) e = cc
@@ -20,5 +20,5 @@ told-once (Refused r place) (Refused x other) e =
     cc
 
 -- `read`
-pub read-unique : (setting : Setting) (file : List ℕ) (a b : MonthRead) → Promised setting file a → Promised setting file b → a ≡ b
-read-unique setting file a b p q = told-once a b (p ∙ sym q)
+pub read-unique : (prices : Prices) (file : List ℕ) (a b : MonthRead) → Promised prices file a → Promised prices file b → a ≡ b
+read-unique prices file a b p q = told-once a b (p ∙ sym q)

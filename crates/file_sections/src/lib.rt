@@ -4,17 +4,18 @@ use answer::Refusal;
 use file_step::Step;
 use file_step::Walk;
 use record::Heading;
-use setting::Setting;
+use setting::Prices;
 ghost use mathlib.Core.Path.{_≡_};
 ghost use Prim.Native.Nat.{_+_, _*_, _≤_};
 ghost use Rattle.file_step.specs.Walk.{Few};
 ghost use Rattle.file_sections.specs.Walk.{sectionsIn, Promised};
 ghost use Rattle.rules.specs.Record.{bodyLength};
 
-// An accepted file: its heading, how many refixed hours and readings it has, how many bytes a party's record has, and where each section starts.
+// An accepted file: its heading, how many refixed hours, prices and readings it has, how many bytes a party's record has, and where each section starts.
 pub struct Sections {
     pub heading: Heading,
     pub refixed: usize,
+    pub prices: usize,
     pub readings: usize,
     pub party_size: usize,
     pub parties_at: usize,
@@ -57,10 +58,11 @@ fn laid_out(w: Walk) -> Sections
     let fixed_at = after_parties(party_size, heading.parties);
     let refixed_at = fixed_at + record::HOUR_SIZE * hours;
     let prices_at = refixed_at + record::HOUR_SIZE * w.refixed;
-    let readings_at = prices_at + record::PRICE_SIZE * hours;
+    let readings_at = prices_at + record::PRICE_SIZE * w.prices;
     Sections {
         heading,
         refixed: w.refixed,
+        prices: w.prices,
         readings: w.readings,
         party_size,
         parties_at: record::HEADING_SIZE,
@@ -71,10 +73,10 @@ fn laid_out(w: Walk) -> Sections
     }
 }
 
-// A WHOLE FILE, record by record. Refuses 1 where it is empty or too long, before all else; then each record by 2, 1, 3, 4, 5, 11, 12, 15; then 1 for a
+// A WHOLE FILE, record by record, with its prices needed or not. Refuses 1 where it is empty or too long, before all else; then each record by 2, 1, 3, 4, 5, 11, 12, 15; then 1 for a
 // missing end and for bytes after it, at the number of complete records.
-pub fn read(file: &[u8], setting: Setting) -> MonthRead
-    ensures { λ r. ⌜ Promised setting (now (file .entry)) r ⌝ }
+pub fn read(file: &[u8], prices: Prices) -> MonthRead
+    ensures { λ r. ⌜ Promised prices (now (file .entry)) r ⌝ }
 {
     if file.len() < 1 {
         return MonthRead::Refused(Refusal::FileFault, 0);
@@ -82,7 +84,7 @@ pub fn read(file: &[u8], setting: Setting) -> MonthRead
     if limits::LONGEST_FILE < file.len() {
         return MonthRead::Refused(Refusal::FileFault, 0);
     }
-    let mut w = file_step::start(setting);
+    let mut w = file_step::start(prices);
     let mut at = 0;
     while at < file.len() {
         let step = file_reader::next_at(file, at, w);

@@ -31,7 +31,7 @@ add-readings-at : tie.Need-add-readings-at
 add-readings-at c = search needs
 
 returns : tie.Need-returns
-returns c = rw (c .before .after-parties .ensures .0, c .before .before .size-of .ensures .0)
+returns c = rw (c .before .before .after-parties .ensures .0, c .before .before .before .size-of .ensures .0)
 
 pub laid-out-spec : {M : Type 1} → statement M
 laid-out-spec =

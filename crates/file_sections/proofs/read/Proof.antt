@@ -6,8 +6,8 @@ use native.Mathlib.Omega.{arith}
 use borrow.Author.Needs.{needs}
 use lib.ListN.{length}
 use Rattle.rules.specs.Limits.{longestFile}
-use Rattle.rules.specs.Setting.{Setting}
-use Rattle.setting.specs.Asked.{asked}
+use Rattle.rules.specs.Setting.{Prices}
+use Rattle.setting.specs.Asked.{pricesAsked}
 use Rattle.file_step.specs.declared.Walk as F
 use Rattle.file_step.specs.declared.Step.{Step}
 use Rattle.file_step.specs.declared.Step.the-variants as S
@@ -18,24 +18,24 @@ use Rattle.file_sections.proofs.read.Statement.{statement}
 use Rattle.file_sections.proofs.read.Tie as tie
 
 abbrev Inv-loop : tie.InvT-loop
-Inv-loop file w₀ at₀ w at = Walking (asked (w₀ .setting)) file w at
+Inv-loop file w₀ at₀ w at = Walking (pricesAsked (w₀ .«prices_asked»)) file w at
 
 abbrev μ-loop : tie.MeasureT-loop
 μ-loop file w₀ at₀ w at = length file - at
 
--- What is known in a turn: the file, the setting, where the walk stands, and that it is a turn.
+-- What is known in a turn: the file, whether its prices are needed, where the walk stands, and that it is a turn.
 abbrev bytes : tie.At-loop Inv-loop μ-loop → List ℕ
 bytes c = c .before .before .before .before .before .args .file .now
 
-abbrev under : tie.At-loop Inv-loop μ-loop → Setting
-under c = asked (c .before .before .before .before .before .args .setting)
+abbrev under : tie.At-loop Inv-loop μ-loop → Prices
+under c = pricesAsked (c .before .before .before .before .before .args .prices)
 
 -- the walk began under it
-began : (c : tie.At-loop Inv-loop μ-loop) → asked (c .before .start .result .setting) ≡ under c
-began c = ap (λ (w : F.Walk). asked (w .setting)) (c .before .start .ensures)
+began : (c : tie.At-loop Inv-loop μ-loop) → pricesAsked (c .before .start .result .«prices_asked») ≡ under c
+began c = ap (λ (w : F.Walk). pricesAsked (w .«prices_asked»)) (c .before .start .ensures)
 
 walking : (c : tie.At-loop Inv-loop μ-loop) → Walking (under c) (bytes c) (c .loop .w) (c .loop .at)
-walking c = subst (λ (x : Setting). Walking x (bytes c) (c .loop .w) (c .loop .at)) (began c) (c .loop .inv)
+walking c = subst (λ (x : Prices). Walking x (bytes c) (c .loop .w) (c .loop .at)) (began c) (c .loop .inv)
 
 some-bytes : (c : tie.At-loop Inv-loop μ-loop) → 1 ≤ length (bytes c)
 some-bytes c = c .before .before .before .if1 .left
@@ -52,9 +52,9 @@ stepped c = c .next-at .result
 
 goes-on :
     (c : tie.After-next-at Inv-loop μ-loop) {v : F.Walk} {size : ℕ} → stepped c ≡ S.Next v size
-    → Walking (asked (c .before .before .before .start .result .setting)) (bytes (c .before .before)) v (c .before .before .loop .at + size)
+    → Walking (pricesAsked (c .before .before .before .start .result .«prices_asked»)) (bytes (c .before .before)) v (c .before .before .loop .at + size)
 goes-on c {v} {size} e =
-    subst (λ (x : Setting). Walking x (bytes (c .before .before)) v (c .before .before .loop .at + size)) (sym (began (c .before .before)))
+    subst (λ (x : Prices). Walking x (bytes (c .before .before)) v (c .before .before .loop .at + size)) (sym (began (c .before .before)))
     (W.goes-on _ _ _ _ (turn (c .before)) (stepped c) (c .next-at .ensures) e)
 
 moves :
