@@ -4,3 +4,4 @@ pub mod Carrying
 pub mod Windows
 pub mod Opening
 pub mod Walking
+pub mod Judging
