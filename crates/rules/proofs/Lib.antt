@@ -32,3 +32,4 @@ pub mod ReadThrough
 pub mod MonthRecords
 pub mod WellFormed
 pub mod ReadingRefused
+pub mod PricesLater
