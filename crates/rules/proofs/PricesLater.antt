@@ -1,4 +1,5 @@
--- PRICES REACH US DAYS AFTER THE VOLUMES (02, W6): what the reading makes of a file with its prices and of one without, where they are needed and where not.
+-- PRICES REACH US DAYS AFTER THE VOLUMES (02, W6): what the reading makes of a file with its prices and of one without, where they are needed and where not; and
+-- that no quantity of a month depends on them.
 use mathlib.Core.Bool.{true, false, _&&_}
 use mathlib.Core.List.{List, [], _∷_, _++_, append-assoc, append-nil}
 use mathlib.Core.Path.{_≡_, refl, sym, _∙_, ap, subst}
@@ -9,6 +10,7 @@ use lib.Dec.{leb}
 use lib.IntN.{ℤ}
 use lib.ListN.{length, length-append}
 use Rattle.rules.specs.Accepted.{NoneRefuses}
+use Rattle.rules.specs.Month.{distributed, periodised, loss, difference, monthVerdict}
 use Rattle.rules.specs.MonthFile.{MonthFile, nothingYet, H, P, hoursThere, pricesThere, due, allPriced, pricedFor, recordChecks, readMonth}
 use Rattle.rules.specs.Record.{Reading, Record, heading, fixedHour, refixedHour, price, reading, end, setPrices, setReadings, recordBytes, alone, checks}
 use Rattle.rules.specs.ReadingRefused.{Passes, withAll, RestRefuses, the-record, of-a-record}
@@ -16,6 +18,7 @@ use Rattle.rules.specs.Refusals.{outOfOrder, refused, given, refusal, un
 use Rattle.rules.specs.Setting.{Setting, needed, optional}
 use Rattle.rules.specs.Statement.{Per, answeredStatement, statementPer, refusalLine}
 use Rattle.rules.specs.WellFormed.{Bytes, numbered, asParty, asReading, recordsOf, bytesOfAll, fileOf, Held, WellFormed}
+use Rattle.rules.proofs.Computed.{months-1, months-2, months-3}
 use Rattle.rules.proofs.MonthRecords.{the-readings, to-the-hours, none-numbered, Through, hours-through, hours-there, prices-read, reading-passes}
 use Rattle.rules.proofs.ReadThrough.{alone-too, Seen, seen, sound-after, a-byte-each}
 use Rattle.rules.proofs.ReadingRefused.{reading-refused-exactly}
@@ -161,3 +164,26 @@ pub no-statement-without-prices :
     → statementPer per setting file ≡ refusalLine outOfOrder (1 + P m + H m + length (m .refixed))
 unfolding statementPer answeredStatement
 no-statement-without-prices per setting file m small is none = ap (answeredStatement per setting) (refused-where-a-price-is-due file m small is none)
+
+-- A QUANTITY NEEDS NO PRICE. W6: "one operation gives distributed, periodised, loss and difference per hour", and its file "may have no 05 records": with any other
+-- prices, or none, a month has the same quantities, and the same verdict after the file is read. So what is given on day 1, without prices, is what day 5 has.
+module _ (m : MonthFile) (prices : List ℤ) where
+  pub distributed-needs-no-price : (t i : ℕ) → distributed (setPrices m prices) t i ≡ distributed m t i
+  unfolding months-1 H P
+  distributed-needs-no-price t i = refl
+
+  pub periodised-needs-no-price : (t i : ℕ) → periodised (setPrices m prices) t i ≡ periodised m t i
+  unfolding months-1 months-2 H P
+  periodised-needs-no-price t i = refl
+
+  pub loss-needs-no-price : (t : ℕ) → loss (setPrices m prices) t ≡ loss m t
+  unfolding months-1 months-2 H P
+  loss-needs-no-price t = refl
+
+  pub difference-needs-no-price : (t i : ℕ) → difference (setPrices m prices) t i ≡ difference m t i
+  unfolding months-1 months-2 H P
+  difference-needs-no-price t i = refl
+
+  pub verdict-needs-no-price : (setting : Setting) → monthVerdict setting (setPrices m prices) ≡ monthVerdict setting m
+  unfolding months-1 months-2 months-3 H P
+  verdict-needs-no-price setting = refl
