@@ -33,3 +33,5 @@ pub mod MonthRecords
 pub mod WellFormed
 pub mod ReadingRefused
 pub mod PricesLater
+pub mod Run
+pub mod AmountsLater
