@@ -15,7 +15,7 @@ use Rattle.rules.specs.Month.{difference, priceAt, amount, monthAmount, 
 use Rattle.rules.specs.MonthFile.{MonthFile, H, P}
 use Rattle.rules.specs.Reconciliation.{amountMillionths}
 use Rattle.rules.specs.Record.{setPrices}
-use Rattle.rules.specs.Refusals.{outOfRange, accepted, unless, andThen, first, inTurn}
+use Rattle.rules.specs.Refusals.{Refusal, outOfRange, wrongLength, differenceTooLarge, numberOf, accepted, refused, unless, andThen, first, inTurn}
 use Rattle.rules.specs.Run.{differenceInRun, amountInRun, priceInRun, runDifferences, runAmounts, runPrices}
 use Rattle.rules.specs.Services.{atℤ, checkAtℤ, eachAtℤ, differenceIn, addsUpCheck, isBeyond, beyondCheck, amountsChecks, pricedAt, amountsFigures}
 use Rattle.rules.specs.Setting.{Setting, needed}
@@ -25,7 +25,7 @@ use Rattle.rules.proofs.Integers.{sumℤ-cong, sumℤ-scale}
 use Rattle.rules.proofs.Loops.{figures-length, figures-at, figures-cong}
 use Rattle.rules.proofs.Month.{accepted-is-judged, heading-right, periodised-in-range, hour-differences-add-up, difference-fits}
 use Rattle.rules.proofs.PricesLater.{difference-needs-no-price}
-use Rattle.rules.proofs.Refusals.{accepted-exactly, in-turn-exactly, unless-exactly}
+use Rattle.rules.proofs.Refusals.{accepted-exactly, in-turn-exactly, unless-exactly, Never, never-by-test, never-in-turn, went-past}
 use Rattle.rules.proofs.Run.{at-place, is-place, run-at}
 use Rattle.rules.proofs.Sums.{sum-zero}
 use Rattle.rules.proofs.Whole.{same-is, same-tests, every-more, every-at}
@@ -36,8 +36,33 @@ unfolding figures
 every-figure is zero f h = tt
 every-figure is (suc n) f h = every-more is (figures n f) (f n) (every-figure is n f (λ i b. h i (omega arith))) (h n (omega arith))
 
--- THE AMOUNTS OF EACH HOUR ADD UP TO 0, of any differences and prices that the second operation takes. W6: "differences of an hour that don't add up to 0 are 4"
+-- a check for another refusal never tells 19
+never-19 : (other : Refusal) → numberOf other < 19 → (test : Bool) (at : ℕ) → Never differenceTooLarge (unless test other at)
+never-19 other less = never-by-test differenceTooLarge other (λ same. omega (arith, ap numberOf same))
+
 module _ (differences : List ℤ) (parties : ℕ) (prices : List ℤ) where
+  hour-adds-up : inTurn (length prices) (addsUpCheck differences parties) ≡ accepted → (t : ℕ) → t < length prices → sumℤ parties (differenceIn differences parties t) ≡ pos 0
+  unfolding addsUpCheck
+  hour-adds-up all t b =
+      same-is (sumℤ parties (differenceIn differences parties t)) (pos 0) (unless-exactly _ _ _ .0 (in-turn-exactly (length prices) (addsUpCheck differences parties) .0 all t b))
+
+  never-adds-up : (t : ℕ) → Never differenceTooLarge (addsUpCheck differences parties t)
+  unfolding addsUpCheck
+  never-adds-up t = never-19 outOfRange (omega arith) _ t
+
+  -- 19 COMES AFTER 4. W6: "19, a difference beyond 2,000,000,001 Wh of either sign, place the hour, after 4.": where the second operation refuses with 19, the
+  -- differences of every hour add up to 0
+  pub differences-add-up-before-19 : (lent place : ℕ) → first (amountsChecks differences parties prices lent) ≡ refused differenceTooLarge place
+      → (t : ℕ) → t < length prices → sumℤ parties (differenceIn differences parties t) ≡ pos 0
+  unfolding amountsChecks first eachAtℤ checkAtℤ
+  differences-add-up-before-19 lent place e t b =
+      let lengths = went-past _ _ (never-19 wrongLength (omega arith) _ 0) e in
+      let equal = went-past _ _ (never-19 outOfRange (omega arith) _ 0) (lengths .1) in
+      let few = went-past _ _ (never-19 outOfRange (omega arith) _ 0) (equal .1) in
+      let priced = went-past _ _ (never-in-turn differenceTooLarge (length prices) _ (λ t. never-19 outOfRange (omega arith) _ t)) (few .1) in
+      let added = went-past (inTurn (length prices) (addsUpCheck differences parties)) _ (never-in-turn differenceTooLarge (length prices) _ never-adds-up) (priced .1) in
+      hour-adds-up (added .0) t b
+
   -- a party's amount in an hour is its difference at the hour's price
   amount-there : length differences ≡ length prices * parties → {t i : ℕ} → t < length prices → i < parties
       → atℤ (amountsFigures differences parties prices) (t * parties + i) ≡ differenceIn differences parties t i *ℤ atℤ prices t
@@ -46,17 +71,16 @@ module _ (differences : List ℤ) (parties : ℕ) (prices : List ℤ) where
       figures-at (length differences) (pricedAt differences parties prices) (t * parties + i) (pos 0) (omega (arith, size, is-place b l))
       ∙ ap (λ (h : ℕ). atℤ differences (t * parties + i) *ℤ atℤ prices h) (at-place parties t i l .0)
 
+  -- THE AMOUNTS OF EACH HOUR ADD UP TO 0, of any differences and prices that the second operation takes. W6: "differences of an hour that don't add up to 0 are 4"
   pub amounts-of-an-hour-add-up : (lent : ℕ) → first (amountsChecks differences parties prices lent) ≡ accepted → (t : ℕ) → t < length prices
       → sumℤ parties (λ i. atℤ (amountsFigures differences parties prices) (t * parties + i)) ≡ pos 0
-  unfolding amountsChecks addsUpCheck
+  unfolding amountsChecks
   amounts-of-an-hour-add-up lent ok t b =
       let passed = accepted-exactly (amountsChecks differences parties prices lent) .0 ok in
       let size : length differences ≡ length prices * parties = eqb-true (length differences) (length prices * parties) (unless-exactly _ _ _ .0 (passed .1 .0)) in
-      let checked = in-turn-exactly (length prices) (addsUpCheck differences parties) .0 (passed .1 .1 .1 .1 .0) t b in
-      let zero-sum : sumℤ parties (differenceIn differences parties t) ≡ pos 0 = same-is (sumℤ parties (differenceIn differences parties t)) (pos 0) (unless-exactly _ _ _ .0 checked) in
       sumℤ-cong parties (λ i l. amount-there size b l)
       ∙ sumℤ-scale parties (differenceIn differences parties t) (atℤ prices t)
-      ∙ ap (λ (x : ℤ). x *ℤ atℤ prices t) zero-sum
+      ∙ ap (λ (x : ℤ). x *ℤ atℤ prices t) (hour-adds-up (passed .1 .1 .1 .1 .0) t b)
       ∙ zero-*ℤ (atℤ prices t)
 
 -- THE SECOND AFTER THE FIRST GIVES EXACTLY THE AMOUNTS OF THE WHOLE MONTH'S CALL, of any run of hours. W6: "The statement program and the BRP program call both, and

@@ -10,20 +10,21 @@ use lib.Dec.{leb}
 use lib.IntN.{ℤ}
 use lib.ListN.{length, length-append}
 use Rattle.rules.specs.Accepted.{NoneRefuses}
+use Rattle.rules.specs.HoursReport.{judgedReport, answeredReport, hoursReport}
 use Rattle.rules.specs.Month.{distributed, periodised, loss, difference, monthVerdict}
 use Rattle.rules.specs.MonthFile.{MonthFile, nothingYet, H, P, hoursThere, pricesThere, due, allPriced, pricedFor, recordChecks, readMonth}
 use Rattle.rules.specs.Record.{Reading, Record, heading, fixedHour, refixedHour, price, reading, end, setPrices, setReadings, recordBytes, alone, checks}
 use Rattle.rules.specs.ReadingRefused.{Passes, withAll, RestRefuses, the-record, of-a-record}
-use Rattle.rules.specs.Refusals.{outOfOrder, refused, given, refusal, unless, andThen, first}
+use Rattle.rules.specs.Refusals.{outOfOrder, Verdict, accepted, refused, given, refusal, unless, andThen, first}
 use Rattle.rules.specs.Setting.{Setting, needed, optional}
-use Rattle.rules.specs.Statement.{Per, answeredStatement, statementPer, refusalLine}
+use Rattle.rules.specs.Statement.{Per, answeredStatement, statementPer, refusalLine, headingLine}
 use Rattle.rules.specs.WellFormed.{Bytes, numbered, asParty, asReading, recordsOf, bytesOfAll, fileOf, Held, WellFormed}
-use Rattle.rules.proofs.Computed.{months-1, months-2, months-3}
+use Rattle.rules.proofs.Computed.{months-1, months-2, months-3, reports-1, reports-2}
 use Rattle.rules.proofs.MonthRecords.{the-readings, to-the-hours, none-numbered, Through, hours-through, hours-there, prices-read, reading-passes}
 use Rattle.rules.proofs.ReadThrough.{alone-too, Seen, seen, sound-after, a-byte-each}
 use Rattle.rules.proofs.ReadingRefused.{reading-refused-exactly}
 use Rattle.rules.proofs.Refusals.{refused-exactly}
-use Rattle.rules.proofs.WellFormed.{read-exactly}
+use Rattle.rules.proofs.WellFormed.{well-formed-is-read, read-exactly}
 use Rattle.rules.proofs.Whole.{Sound, nothing-is-sound, heading-facts, of-the-right-length}
 
 -- A FILE WITH ALL ITS PRICES IS READ ALIKE. W6: "The statement program and the BRP program .. their output stays the same to the byte": a file that is read where
@@ -187,3 +188,18 @@ module _ (m : MonthFile) (prices : List ℤ) where
   pub verdict-needs-no-price : (setting : Setting) → monthVerdict setting (setPrices m prices) ≡ monthVerdict setting m
   unfolding months-1 months-2 months-3 H P
   verdict-needs-no-price setting = refl
+
+  report-alike : (v : Verdict) → judgedReport (setPrices m prices) v ≡ judgedReport m v
+  unfolding months-1 months-2 reports-1 reports-2 headingLine H P
+  report-alike accepted = refl
+  report-alike (refused r place) = refl
+
+  -- and so the hours program, which prints no money, prints of a file without its prices byte for byte what it prints of the file that has them
+  pub report-needs-no-price : (setting : Setting) → WellFormed optional m → WellFormed optional (setPrices m prices)
+      → hoursReport setting (fileOf (setPrices m prices)) ≡ hoursReport setting (fileOf m)
+  unfolding hoursReport answeredReport
+  report-needs-no-price setting without with-them =
+      ap (answeredReport setting) (well-formed-is-read optional (setPrices m prices) with-them)
+      ∙ ap (judgedReport (setPrices m prices)) (verdict-needs-no-price setting)
+      ∙ report-alike (monthVerdict setting m)
+      ∙ sym (ap (answeredReport setting) (well-formed-is-read optional m without))
