@@ -32,3 +32,6 @@ pub mod ReadThrough
 pub mod MonthRecords
 pub mod WellFormed
 pub mod ReadingRefused
+pub mod PricesLater
+pub mod Run
+pub mod AmountsLater

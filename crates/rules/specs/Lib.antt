@@ -43,6 +43,7 @@ pub mod ReadingRefused
 pub mod Month
 pub mod PlainRecord
 pub mod Services
+pub mod Run
 pub mod Plan
 pub mod Brp
 pub mod BrpDemands
