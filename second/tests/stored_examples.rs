@@ -46,7 +46,7 @@ fn the_silent_month_is_refused_at_its_hour() {
 #[test]
 fn the_full_month_is_a_full_month() {
     let bytes = full().bytes();
-    let month = settle(&bytes, Setting::Final).unwrap();
+    let month = settle(&bytes, Setting::FINAL).unwrap();
     assert_eq!((month.hours.len(), month.file.parties.len()), (744, 40));
     assert!(month.file.readings.len() >= 300);
     assert!(!month.refixed_wh.is_empty() && month.refixed_wh != month.fixed_wh);
@@ -58,7 +58,7 @@ fn the_full_month_is_a_full_month() {
 #[test]
 fn the_ore_month_has_a_tie_and_three_missing_ore() {
     let bytes = ore().bytes();
-    let sums = settle(&bytes, Setting::Final).unwrap().party_sums();
+    let sums = settle(&bytes, Setting::FINAL).unwrap().party_sums();
     let amounts: Vec<i64> = sums.iter().map(|sums| sums.amount_millionths).collect();
     assert_eq!(amounts, [750_000, 500_000, -500_000, -1_250_000, 500_000]);
     let invoices: Vec<i64> = sums.iter().map(|sums| sums.invoice_ore).collect();
@@ -69,7 +69,7 @@ fn the_ore_month_has_a_tie_and_three_missing_ore() {
 #[test]
 fn the_brp_month_shows_when_the_whole_ore_are_made() {
     let bytes = examples::brp().bytes();
-    let sums = settle(&bytes, Setting::Final).unwrap().party_sums();
+    let sums = settle(&bytes, Setting::FINAL).unwrap().party_sums();
     let invoices: Vec<i64> = sums.iter().map(|sums| sums.invoice_ore).collect();
     assert_eq!(invoices, [1, 1, -2]);
     let text = brp(&bytes);

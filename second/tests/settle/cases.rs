@@ -75,7 +75,7 @@ fn w2() {
 #[test]
 fn s1() {
     let file = second::examples::s1().bytes();
-    let month = second::month::settle(&file, Setting::Final).unwrap();
+    let month = second::month::settle(&file, Setting::FINAL).unwrap();
     let applied = &month.refixed_wh;
     assert_eq!(
         curve(&month.fixed_wh, 10_000_000, 3),
@@ -95,7 +95,7 @@ fn s1() {
         let reconciled = reconciliation(applied[hour], distributed, &periodised, 2, price, 3, 3);
         let (loss, differences, amounts) = reconciled.unwrap();
         assert_eq!(loss, [1_100_000, 600_000, 1_100_000][hour]);
-        assert_eq!(differences, settled.reconciled.differences_wh);
+        assert_eq!(differences, settled.differences_wh);
         assert_eq!(
             amounts,
             amounts_dkk[hour].map(|dkk: f64| (dkk * 1e8) as i64)
