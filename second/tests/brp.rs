@@ -645,7 +645,7 @@ fn made_months_tell_every_wrong_report() {
                 .iter()
                 .filter(|&month| report(month) != brp::text(month));
             let differing = differing.count();
-            assert!(differing >= 8, "seed {seed}, {name}: {differing}");
+            assert!(differing >= 5, "seed {seed}, {name}: {differing}");
         }
     }
 }
