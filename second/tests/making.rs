@@ -162,6 +162,88 @@ fn the_damages_of_12_records_are_reached_in_1_500_files() {
     }
 }
 
+/// Most months have their prices, as all had before W6, so that what comes after them is still told by the programs that need
+/// them; and enough have none.
+#[test]
+fn about_a_seventh_of_the_months_has_no_prices() {
+    let made: Vec<MadeFile> = files(12, 2_400).collect();
+    let valid = made.iter().filter(|made| made.lenient_aim == Aim::Accepted);
+    let good_until_damaged = made
+        .iter()
+        .filter(|made| DRAFT_FAULTS.iter().any(|(name, _)| made.name == *name));
+    for months in [valid.collect::<Vec<_>>(), good_until_damaged.collect()] {
+        let without = months.iter().filter(|made| made.unpriced_at.is_some());
+        let share = without.count() as f64 / months.len() as f64;
+        assert!((0.1..0.2).contains(&share), "{share}");
+    }
+    let [of_amounts, of_quantities] =
+        [Report::Statement, Report::Hours].map(|report| tally_of(report, 12, 2_400));
+    assert!(of_amounts.accepted > 500, "{}", of_amounts.accepted);
+    assert_eq!(of_amounts.without_prices, 0);
+    assert!(of_quantities.without_prices > 60);
+    for number in (1..=15).chain([17, 18]) {
+        let (told, told_in_all) = (of_amounts.refused[number], of_quantities.refused[number]);
+        assert!(
+            told >= 8 && (told_in_all >= told || number == 3),
+            "{number}"
+        );
+    }
+}
+
+/// W6's damages, with what a run that gives amounts refuses each of them with, and a run of quantities.
+const DAMAGES_OF_PRICES: &[(&str, u8, u8)] = &[
+    ("price hour field", 3, 3),
+    ("first price hour field", 3, 3),
+    ("price too large", 4, 4),
+    ("price too low", 4, 4),
+    ("a price too few", 3, 3),
+    ("the first price missing", 3, 3),
+    ("prices that break off", 3, 3),
+    ("prices that break off, and the end", 3, 3),
+    ("a price too many", 3, 3),
+    ("the prices after the readings", 3, 3),
+    ("no prices, but one after a reading", 3, 3),
+    ("no prices, and a refixed hour after a reading", 3, 3),
+    ("a refixed hour after a price", 3, 3),
+    ("a reading where the prices begin", 3, 3),
+    ("a reading where the refixed hours begin", 3, 3),
+    ("an end where the prices begin", 3, 1),
+    ("an end where the refixed hours begin", 3, 1),
+    ("an end where the prices begin, with a wrong count", 3, 15),
+    ("a price out of range, and prices that break off", 4, 4),
+    ("prices that break off, and a party out of range", 3, 3),
+    ("no prices, and an unknown kind in their place", 2, 2),
+    ("no prices, and a cut in their place", 1, 1),
+    ("no prices, and the first party out of range", 3, 4),
+    ("no prices, and the first span", 3, 11),
+    ("no prices, and the last E too large", 3, 12),
+    ("no prices, and a wrong count", 3, 15),
+    ("no prices, and bytes after the end", 3, 1),
+    ("no prices, and W 0", 3, 6),
+    ("no prices, and a missing hour", 3, 7),
+    ("no prices, and too much periodised in an hour", 3, 14),
+];
+
+/// Whatever the seed, the 1,500 files of a comparison have each of them several times.
+#[test]
+fn the_damages_of_prices_are_reached_in_1_500_files() {
+    for seed in [2, 13] {
+        let made: Vec<MadeFile> = files(seed, 1_500).collect();
+        for &(name, of_amounts, of_quantities) in DAMAGES_OF_PRICES {
+            let named = made.iter().filter(|made| made.name == name);
+            let told: Vec<[u8; 2]> = named
+                .map(|made| {
+                    let runs = [Setting::PROVISIONAL, Setting::PROVISIONAL.of_quantities()];
+                    runs.map(|setting| settle(&made.bytes, setting).unwrap_err().number as u8)
+                })
+                .collect();
+            assert!(told.len() >= 4, "seed {seed}, {name}: {}", told.len());
+            let expected = [of_amounts, of_quantities];
+            assert!(told.iter().all(|&told| told == expected), "{name}");
+        }
+    }
+}
+
 #[test]
 fn what_did_not_occur_is_named() {
     let random = &mut Random::of_file(1, 1);
@@ -716,6 +798,37 @@ fn check_finds_wrong_brp_programs() {
         let message = check_report(Report::Brp, &program, 20, 60).err().unwrap();
         let made = left_file(&message, 20);
         assert!(number > 0 || is_of_12_records(&made), "{message}");
+    }
+    fs::remove_dir_all(&directory).unwrap();
+}
+
+/// The wrong programs of W6: the hours that need the prices, a statement that takes a month without them, and one that tells
+/// what comes later in the file before it misses them.
+#[test]
+fn check_finds_programs_that_mind_the_prices_wrongly() {
+    let directory = temporary("wrong-prices");
+    let second = env!("CARGO_BIN_EXE_second");
+    let program = |report: &str, instead: &str| {
+        let text = format!(
+            "file=$(mktemp) && cat > $file && hours=$('{second}' hours < $file)
+             statement=$('{second}' statement < $file)
+             case $statement in 'refused 3 at '*) {instead} ;; *) '{second}' {report} < $file ;; esac
+             rm $file"
+        );
+        script(&directory, &text)
+    };
+    for (report, instead) in [
+        (Report::Hours, "echo \"$statement\""),
+        (Report::Statement, "echo \"$hours\""),
+        (
+            Report::Statement,
+            "case $hours in refused*) echo \"$hours\" ;; *) echo \"$statement\" ;; esac",
+        ),
+    ] {
+        let program = program(report.word(), instead);
+        let message = check_report(report, &program, 21, 300).err().unwrap();
+        let made = left_file(&message, 21);
+        assert!(made.unpriced_at.is_some(), "{message}");
     }
     fs::remove_dir_all(&directory).unwrap();
 }
