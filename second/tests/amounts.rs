@@ -10,14 +10,14 @@ mod priced_hours;
 
 use std::collections::BTreeMap;
 
-use common::told;
+use common::{month_of, told};
 use priced_hours::PricedHours;
 use second::hours::hours;
-use second::make::files;
+use second::make::{files, without_prices};
 use second::month::{settle, Month};
 use second::random::Random;
 use second::reconciliation::{amounts, reconciliation};
-use second::record::{first_record, Record};
+use second::record::{first_record, Reading, Record};
 use second::refusal::{Number, Refusal};
 use second::setting::Setting;
 use second::statement::statement;
@@ -51,6 +51,32 @@ fn a70_amounts_are_hour_by_hour_and_within_an_hour_party_by_party() {
     assert_eq!(
         amounts_of(&[LIMIT, -LIMIT], 2, &[-5_000_000]),
         Ok(vec![-most, most])
+    );
+}
+
+/// Two equal shares, 2 and 3 Wh, and 5 Wh read at the first: both operations by hand.
+#[test]
+fn the_two_operations_by_hand() {
+    let draft = month_of(&[1, 1], &[2, 3], &[Reading::of_month(0, 0, 2, 5)]);
+    let file = without_prices(draft).bytes();
+    let month = settle(&file, Setting::FINAL.of_quantities()).unwrap();
+    let [first, second] = &month.hours[..] else {
+        panic!("two hours");
+    };
+    assert_eq!((&first.distributed_wh[..], first.loss_wh), (&[1, 1][..], 0));
+    assert_eq!(
+        (&second.distributed_wh[..], second.loss_wh),
+        (&[2, 1][..], 0)
+    );
+    assert_eq!(
+        [&first.periodised_wh, &second.periodised_wh],
+        [&[2, 0], &[3, 0]]
+    );
+    let differences = [&first.differences_wh[..], &second.differences_wh].concat();
+    assert_eq!(differences, [1, -1, 1, -1]);
+    assert_eq!(
+        amounts_of(&differences, 2, &[7, -9]),
+        Ok(vec![7, -7, -9, 9])
     );
 }
 
