@@ -22,10 +22,8 @@ pub mod Brp
 pub mod BrpDemands
 pub mod GlnNumber
 pub mod OwnBrps
-mod Computed
-pub mod WorkedCases
-pub mod WorkedMonths
-pub mod WorkedServices
+pub mod Computed
+pub mod SmallMonth
 pub mod Places
 pub mod RoundTrip
 pub mod ReadThrough
