@@ -1,20 +1,21 @@
 //! The damages: months with a fault for each refusal 1 to 15 and for 18, in each way that its row of the table names; two
-//! faults at once, so that their order shows; and random damage. A month that is not refixed is good, in a provisional run, and 17 in a
-//! final one where nothing comes before it: what is told here is the provisional run's.
+//! faults at once, so that their order shows; and random damage. A month that is not refixed is good, in a provisional run,
+//! and 17 in a final one where nothing comes before it. One without prices is good, in a run of quantities, and 3 in one that
+//! gives amounts. What is told here is what a provisional run of quantities is to say, and the draft is left as it reads it.
 //!
 //! A fault of a draft changes fields and tells the refusal that it alone must give. A fault of the bytes works on the
 //! records of a good draft and tells its aim. Neither is asked what the reader says: the tests compare the two.
 
-use crate::draft::{measured_hour, Draft};
+use crate::draft::{measured_hour, prices_of, Draft};
 use crate::gln::{with_check_digit, Gln};
 use crate::limits::{FILE_BYTES_MAX, STATUS_MISSING, WHOLE_WEIGHT_MAX};
 use crate::make::{
     add_readings, curve, give_any_brps, is_refixed, month, most_residual_wh, own_weight,
-    random_hour, random_weights, Aim, MadeFile,
+    random_hour, random_weights, without_prices, Aim, MadeFile,
 };
 use crate::random::Random;
 use crate::record::{
-    Heading, HourFlows, Party, Reading, Record, Weights, FIXED_HOUR, PARTY, PARTY_WITH_BRP,
+    Heading, HourFlows, Party, Price, Reading, Record, Weights, FIXED_HOUR, PARTY, PARTY_WITH_BRP,
     READING, REFIXED_HOUR,
 };
 use crate::refusal::{Number, Refusal};
@@ -25,14 +26,8 @@ type BytesFault = fn(&mut Draft, &mut Random) -> (Vec<u8>, Aim);
 /// The file of this number with the damage whose turn it is: all in turn.
 pub fn damaged(number: u64, turn: usize, random: &mut Random) -> MadeFile {
     let mut draft = good_month(random);
-    let (name, bytes, provisional_aim) = damage_of_turn(turn, &mut draft, random);
-    MadeFile {
-        number,
-        name,
-        bytes,
-        refixed: !draft.refixed.is_empty(),
-        provisional_aim,
-    }
+    let (name, bytes, lenient_aim) = damage_of_turn(turn, &mut draft, random);
+    MadeFile::new(number, name, &draft, bytes, lenient_aim)
 }
 
 fn damage_of_turn(
@@ -54,8 +49,17 @@ fn damage_of_turn(
     (name, damage(draft, random), Aim::Anything)
 }
 
-/// A month to damage: mostly small, now and then of full size; at least two hours, parties and readings.
+/// A month to damage, once in seven times without prices.
 fn good_month(random: &mut Random) -> Draft {
+    let priced = priced_month(random);
+    if random.once_in(7) {
+        return without_prices(priced);
+    }
+    priced
+}
+
+/// A month with prices: mostly small, now and then of full size; at least two hours, parties and readings.
+fn priced_month(random: &mut Random) -> Draft {
     let refixed = is_refixed(random);
     if random.once_in(16) {
         let readings = 20 + random.below(300);
@@ -86,9 +90,15 @@ pub const DRAFT_FAULTS: &[(&str, DraftFault)] = &[
         Number::OutOfOrder.at(draft.at_refixed(hour))
     }),
     ("price hour field", |draft, random| {
+        have_prices(draft, random);
         let hour = random.below(draft.prices.len());
         draft.prices[hour].hour = other_hour(random, hour);
         Number::OutOfOrder.at(draft.at_price(hour))
+    }),
+    ("first price hour field", |draft, random| {
+        have_prices(draft, random);
+        draft.prices[0].hour = other_hour(random, 0);
+        Number::OutOfOrder.at(draft.at_price(0))
     }),
     // 3: a mixture of parties
     ("a 02 among 12 records", |draft, random| {
@@ -224,11 +234,13 @@ pub const DRAFT_FAULTS: &[(&str, DraftFault)] = &[
         })
     }),
     ("price too large", |draft, random| {
+        have_prices(draft, random);
         let hour = random.below(draft.prices.len());
         draft.prices[hour].price_ore = outside(random, 5_000_001, &[i32::MAX]);
         Number::OutsideRange.at(draft.at_price(hour))
     }),
     ("price too low", |draft, random| {
+        have_prices(draft, random);
         let hour = random.below(draft.prices.len());
         draft.prices[hour].price_ore = outside(random, -5_000_001, &[i32::MIN]);
         Number::OutsideRange.at(draft.at_price(hour))
@@ -518,6 +530,14 @@ fn other_hour(random: &mut Random, due: usize) -> u16 {
 fn have_refixed(draft: &mut Draft) {
     if draft.refixed.is_empty() {
         draft.refixed = draft.fixed.clone();
+    }
+}
+
+/// Gives the draft prices, if it has none.
+fn have_prices(draft: &mut Draft, random: &mut Random) {
+    if draft.prices.is_empty() {
+        let hours = draft.fixed.iter();
+        draft.prices = prices_of(hours.map(|_| random.between(-5_000_000, 5_000_000) as i32));
     }
 }
 
@@ -956,22 +976,67 @@ pub const BYTES_FAULTS: &[(&str, BytesFault)] = &[
         refused(draft.records(), Number::OutOfOrder, draft.at_refixed(hour))
     }),
     ("a price too few", |draft, random| {
+        have_prices(draft, random);
         let hour = random.below(draft.prices.len());
         draft.prices.remove(hour);
         refused(draft.records(), Number::OutOfOrder, draft.at_price(hour))
     }),
-    ("a price too many", |draft, _| {
+    ("the first price missing", |draft, random| {
+        have_prices(draft, random);
+        draft.prices.remove(0);
+        refused(draft.records(), Number::OutOfOrder, draft.at_price(0))
+    }),
+    ("prices that break off", |draft, random| {
+        let hour = break_off_prices(draft, random);
+        refused(draft.records(), Number::OutOfOrder, draft.at_price(hour))
+    }),
+    ("prices that break off, and the end", |draft, random| {
+        draft.readings.clear();
+        let hour = break_off_prices(draft, random);
+        refused(draft.records(), Number::OutOfOrder, draft.at_price(hour))
+    }),
+    ("a price too many", |draft, random| {
+        have_prices(draft, random);
         let hour = draft.prices.len();
         let mut another = draft.prices[0];
         another.hour = hour as u16;
         draft.prices.push(another);
         refused(draft.records(), Number::OutOfOrder, draft.at_price(hour))
     }),
-    ("no prices", |draft, _| {
-        draft.prices.clear();
-        refused(draft.records(), Number::OutOfOrder, draft.at_price(0))
+    ("the prices after the readings", |draft, random| {
+        have_prices(draft, random);
+        let prices = std::mem::take(&mut draft.prices);
+        let mut records = draft.records();
+        let place = draft.at_end();
+        let late = prices.into_iter().map(|p| Record::Price(p).encode());
+        records.splice(place..place, late);
+        refused(records, Number::OutOfOrder, place)
     }),
-    ("refixed hours after the prices", |draft, _| {
+    ("no prices, but one after a reading", |draft, random| {
+        draft.prices.clear();
+        let price_ore = random.between(-5_000_000, 5_000_000) as i32;
+        let price = Price { hour: 0, price_ore };
+        put_after_a_reading(draft, random, Record::Price(price))
+    }),
+    (
+        "no prices, and a refixed hour after a reading",
+        |draft, random| {
+            draft.prices.clear();
+            draft.refixed.clear();
+            let late = random_hour(random, 0, 0);
+            put_after_a_reading(draft, random, Record::Refixed(late))
+        },
+    ),
+    ("a refixed hour after a price", |draft, random| {
+        have_prices(draft, random);
+        draft.refixed.clear();
+        let mut records = draft.records();
+        let place = draft.at_price(1 + random.below(draft.prices.len() - 1));
+        records.insert(place, Record::Refixed(draft.fixed[0]).encode());
+        refused(records, Number::OutOfOrder, place)
+    }),
+    ("refixed hours after the prices", |draft, random| {
+        have_prices(draft, random);
         draft.refixed.clear();
         let mut records = draft.records();
         let place = draft.at_reading(0);
@@ -994,30 +1059,69 @@ pub const BYTES_FAULTS: &[(&str, BytesFault)] = &[
     }),
     ("an early end", |draft, random| {
         let mut records = draft.records();
-        let place = random.below(draft.at_price(draft.prices.len()));
+        let place = place_of_no_end(draft, random);
         records.insert(place, Record::End(place as u32).encode());
         refused(records, Number::OutOfOrder, place)
     }),
     ("an early end, and nothing after it", |draft, random| {
         let mut records = draft.records();
-        let place = random.below(draft.at_price(draft.prices.len()));
+        let place = place_of_no_end(draft, random);
         records.truncate(place);
         records.push(Record::End(place as u32).encode());
         refused(records, Number::OutOfOrder, place)
     }),
     ("an early reading", |draft, random| {
         let mut records = draft.records();
-        let place = random.below(draft.at_price(draft.prices.len()));
+        let place = place_of_no_end(draft, random);
         records.insert(place, records[draft.at_reading(0)].clone());
         refused(records, Number::OutOfOrder, place)
     }),
     ("an early 08", |draft, random| {
         let mut records = draft.records();
-        let place = random.below(draft.at_price(draft.prices.len()));
+        let place = place_of_no_end(draft, random);
         let early = reading_of(draft, random, 0, 1, 0).weighing(0, 0);
         records.insert(place, Record::Reading(early).encode());
         refused(records, Number::OutOfOrder, place)
     }),
+    // A run of quantities takes these, and refuses what comes after them.
+    ("a reading where the prices begin", |draft, random| {
+        have_prices(draft, random);
+        let place = draft.at_price(0);
+        let early = reading_of(draft, random, 0, 1, 0);
+        let records = put_early(draft, place, Record::Reading(early));
+        refused(records, Number::OutOfOrder, place + 1)
+    }),
+    (
+        "a reading where the refixed hours begin",
+        |draft, random| {
+            have_refixed(draft);
+            let place = draft.at_refixed(0);
+            let early = reading_of(draft, random, 0, 1, 0);
+            let records = put_early(draft, place, Record::Reading(early));
+            refused(records, Number::OutOfOrder, place + 1)
+        },
+    ),
+    ("an end where the prices begin", |draft, random| {
+        have_prices(draft, random);
+        let place = draft.at_price(0);
+        let records = put_early(draft, place, Record::End(place as u32));
+        refused(records, Number::BrokenFile, place + 1)
+    }),
+    ("an end where the refixed hours begin", |draft, _| {
+        have_refixed(draft);
+        let place = draft.at_refixed(0);
+        let records = put_early(draft, place, Record::End(place as u32));
+        refused(records, Number::BrokenFile, place + 1)
+    }),
+    (
+        "an end where the prices begin, with a wrong count",
+        |draft, random| {
+            have_prices(draft, random);
+            let place = draft.at_price(0);
+            let records = put_early(draft, place, Record::End(place as u32 + 1));
+            refused(records, Number::WrongCount, place)
+        },
+    ),
     // 4: a party that is read as of the other kind, its load share from the digits of a GLN.
     ("the first 12 marked as 02", |draft, random| {
         have_brps(draft, random);
@@ -1058,6 +1162,7 @@ pub const BYTES_FAULTS: &[(&str, BytesFault)] = &[
         refused(draft.records(), Number::OutOfOrder, draft.at_fixed(hour))
     }),
     ("hour field and price", |draft, random| {
+        have_prices(draft, random);
         let hour = random.below(draft.prices.len());
         draft.prices[hour].hour = other_hour(random, hour);
         draft.prices[hour].price_ore = i32::MAX;
@@ -1146,9 +1251,27 @@ pub const BYTES_FAULTS: &[(&str, BytesFault)] = &[
         records.push(vec![random.bits() as u8; 1 + random.below(40)]);
         refused(records, Number::WrongCount, place)
     }),
+    (
+        "a price out of range, and prices that break off",
+        |draft, random| {
+            let hour = break_off_prices(draft, random);
+            let outside = random.below(hour);
+            draft.prices[outside].price_ore = 5_000_001;
+            let place = draft.at_price(outside);
+            refused(draft.records(), Number::OutsideRange, place)
+        },
+    ),
+    (
+        "prices that break off, and a party out of range",
+        |draft, random| {
+            let hour = break_off_prices(draft, random);
+            draft.readings[0].party = u8::MAX;
+            refused(draft.records(), Number::OutOfOrder, draft.at_price(hour))
+        },
+    ),
     ("an early end with a wrong count", |draft, random| {
         let mut records = draft.records();
-        let place = random.below(draft.at_price(draft.prices.len()));
+        let place = place_of_no_end(draft, random);
         records.truncate(place);
         records.push(Record::End(place as u32 + 1).encode());
         records.push(vec![0xFF]);
@@ -1339,7 +1462,119 @@ pub const BYTES_FAULTS: &[(&str, BytesFault)] = &[
             refused(draft.records(), Number::TooMuchPeriodised, hour)
         },
     ),
+    // No prices, and another fault. Where they would begin only 2 and 1 come before the 3 of a run that gives amounts.
+    (
+        "no prices, and an unknown kind in their place",
+        |draft, random| {
+            draft.prices.clear();
+            let mut records = draft.records();
+            let place = draft.at_price(0);
+            records[place][0] = unknown_kind(random);
+            refused(records, Number::UnknownKind, place)
+        },
+    ),
+    ("no prices, and a cut in their place", |draft, random| {
+        draft.prices.clear();
+        let mut records = draft.records();
+        let place = draft.at_price(0);
+        records.truncate(place + 1);
+        records[place].truncate(random.below(10));
+        refused(records, Number::BrokenFile, place)
+    }),
+    (
+        "no prices, and the first party out of range",
+        |draft, random| {
+            draft.prices.clear();
+            draft.readings[0].party = outside(random, draft.parties.len() as u8, &[64, 255]);
+            refused(draft.records(), Number::OutsideRange, draft.at_reading(0))
+        },
+    ),
+    ("no prices, and the first span", |draft, _| {
+        draft.prices.clear();
+        draft.readings[0].b = draft.heading.hours + 1;
+        refused(draft.records(), Number::BadSpan, draft.at_reading(0))
+    }),
+    ("no prices, and the last E too large", |draft, _| {
+        draft.prices.clear();
+        let last = draft.readings.len() - 1;
+        draft.readings[last].e_wh = 1_000_000_001;
+        let place = draft.at_reading(last);
+        refused(draft.records(), Number::ReadingTooLarge, place)
+    }),
+    ("no prices, and a wrong count", |draft, random| {
+        // With the prices, as if they were there, or another; after the readings or without any.
+        draft.prices.clear();
+        if random.once_in(2) {
+            draft.readings.clear();
+        }
+        let records = draft.at_end();
+        let with_prices = records + draft.fixed.len();
+        draft.end_count = Some(*random.pick(&[with_prices, records + 1, 0]) as u32);
+        refused(draft.records(), Number::WrongCount, records)
+    }),
+    ("no prices, and bytes after the end", |draft, random| {
+        draft.prices.clear();
+        let mut records = draft.records();
+        records.push(vec![random.bits() as u8; 1 + random.below(40)]);
+        refused(records, Number::BrokenFile, draft.at_end() + 1)
+    }),
+    ("no prices, and W 0", |draft, _| {
+        draft.prices.clear();
+        set_shares(draft, 0, 0);
+        refused(draft.records(), Number::BadShareSum, 0)
+    }),
+    ("no prices, and a missing hour", |draft, random| {
+        draft.prices.clear();
+        let hour = random.below(draft.fixed.len());
+        draft.fixed[hour] = missing_hour(hour);
+        refused(draft.records(), Number::MissingHour, hour)
+    }),
+    (
+        "no prices, and too much periodised in an hour",
+        |draft, random| {
+            draft.prices.clear();
+            let hour = random.below(draft.fixed.len());
+            crowded_hour(draft, random, hour);
+            refused(draft.records(), Number::TooMuchPeriodised, hour)
+        },
+    ),
 ];
+
+/// Leaves the first few prices, at least one and not all, and tells how many.
+fn break_off_prices(draft: &mut Draft, random: &mut Random) -> usize {
+    have_prices(draft, random);
+    let left = 1 + random.below(draft.prices.len() - 1);
+    draft.prices.truncate(left);
+    left
+}
+
+/// Puts a record, which may not stand there, behind one of the readings.
+fn put_after_a_reading(draft: &mut Draft, random: &mut Random, late: Record) -> (Vec<u8>, Aim) {
+    let mut records = draft.records();
+    let place = draft.at_reading(1 + random.below(draft.readings.len()));
+    records.insert(place, late.encode());
+    refused(records, Number::OutOfOrder, place)
+}
+
+/// The records with a reading or an end put in where the refixed hours or the prices begin. The draft is left as a run of
+/// quantities reads the file, which then has none of these.
+fn put_early(draft: &mut Draft, place: usize, early: Record) -> Vec<Vec<u8>> {
+    let mut records = draft.records();
+    records.insert(place, early.encode());
+    if place == draft.at_refixed(0) {
+        draft.refixed.clear();
+    }
+    draft.prices.clear();
+    records
+}
+
+/// A place before the readings at which no run takes a reading or an end.
+fn place_of_no_end(draft: &Draft, random: &mut Random) -> usize {
+    let begins = [draft.at_refixed(0), draft.at_price(0)];
+    let places = 0..draft.at_price(draft.prices.len());
+    let places: Vec<usize> = places.filter(|place| !begins.contains(place)).collect();
+    *random.pick(&places)
+}
 
 fn a_party_too_few(draft: &mut Draft, random: &mut Random) -> (Vec<u8>, Aim) {
     let party = random.below(draft.parties.len());
@@ -1469,6 +1704,14 @@ pub const RANDOM_DAMAGES: &[(&str, RandomDamage)] = &[
         }
         draft.bytes()
     }),
+    (
+        "refixed hours, prices and readings mixed",
+        |draft, random| {
+            let mut records = draft.records();
+            random.shuffle(&mut records[draft.at_refixed(0)..draft.at_end()]);
+            records.concat()
+        },
+    ),
     ("readings added, the count left", |draft, random| {
         draft.end_count = Some(draft.at_end() as u32);
         let readings = random.below(2);

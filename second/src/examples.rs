@@ -1,18 +1,19 @@
 //! The stored examples: S1 of 01, a full month with realistic figures, a month with a silent hour, the case D3 of 01 as a
 //! month that can be worked out by hand, another such month before and after its refixation, one for the whole øre, three that
-//! one reading crosses, and one of suppliers under balance responsible parties.
+//! one reading crosses, one of suppliers under balance responsible parties, and one before and after its prices have come.
 
 use crate::draft::{measured_hour, prices_of, Draft, DraftParty};
 use crate::gln::with_check_digit;
 use crate::limits::{STATUS_ESTIMATED, STATUS_MEASURED, STATUS_MISSING};
-use crate::make::curve;
+use crate::make::{curve, without_prices};
 use crate::plan::plan;
 use crate::random::Random;
 use crate::record::{Heading, HourFlows, Reading};
 
 /// The names of the examples.
-pub const NAMES: [&str; 11] = [
+pub const NAMES: [&str; 13] = [
     "s1", "full", "silent", "d3", "before", "after", "ore", "yearly1", "yearly2", "yearly3", "brp",
+    "volumes", "priced",
 ];
 
 /// The month file of an example; None for an unknown name.
@@ -29,6 +30,8 @@ pub fn example(name: &str) -> Option<Vec<u8>> {
         "yearly2" => Some(yearly()[1].bytes()),
         "yearly3" => Some(yearly()[2].bytes()),
         "brp" => Some(brp().bytes()),
+        "volumes" => Some(volumes().bytes()),
+        "priced" => Some(priced().bytes()),
         _ => None,
     }
 }
@@ -227,6 +230,32 @@ pub fn brp() -> Draft {
         refixed: series,
         prices: prices_of([400_000, 1_300_000]),
         readings: readings.map(one_hour_reading).to_vec(),
+        end_count: None,
+    }
+}
+
+/// February 2017 in area 9 on day 1, refixed and without prices: two suppliers with three quarters and a quarter of W, two
+/// readings, and the second supplier carrying the loss.
+pub fn volumes() -> Draft {
+    without_prices(priced())
+}
+
+/// The same month on day 5, when its prices have come: 0.5 and 1.2 øre per Wh.
+pub fn priced() -> Draft {
+    Draft {
+        heading: Heading {
+            area: 9,
+            year: 2017,
+            month: 2,
+            hours: 2,
+            parties: 2,
+            carrier: 1,
+        },
+        parties: numbered_parties([3, 1]),
+        fixed: vec![measured_hour(0, 8), measured_hour(1, 4)],
+        refixed: vec![measured_hour(0, 9), measured_hour(1, 6)],
+        prices: prices_of([500_000, 1_200_000]),
+        readings: vec![Reading::of_month(0, 0, 2, 8), Reading::of_month(1, 1, 2, 1)],
         end_count: None,
     }
 }

@@ -37,7 +37,7 @@ fn hour_line(month: &Month, hour: usize) -> String {
         month.curve[hour].into(),
         figures.distributed_wh.iter().sum(),
         figures.periodised_wh.iter().sum(),
-        figures.reconciled.loss_wh,
+        figures.loss_wh,
     ];
     line(&format!("{hour} {fixed_status} {applied_status}"), &columns)
 }

@@ -16,9 +16,9 @@
 //! | `distribution` | "Distributed consumption" |
 //! | `periodisation` | "Periodised consumption", and W3's part of it in one month |
 //! | `plan` | W3: the records of a reading over several months |
-//! | `reconciliation` | "Reconciliation", one hour |
+//! | `reconciliation` | "Reconciliation", one hour; W6: quantities first, amounts later |
 //! | `invoice` | W2: the month's exact amounts in whole øre |
-//! | `setting` | W1: final or provisional |
+//! | `setting` | W1: final or provisional; W6: of amounts or of quantities alone |
 //! | `month` | a whole month: the order of refusals, the hours' figures, the month sums |
 //! | `statement` | "The statement program" |
 //! | `hours` | what the reviewer of 00 asks about a month; its layout stands at its head |
@@ -31,10 +31,10 @@
 //! program with this one) and `bench` (months of a chosen size, to count instructions on).
 //!
 //! Every public service (`residual::residual`, `residual::curve`, `distribution::distribution`,
-//! `periodisation::periodisation`, `plan::plan`, `reconciliation::reconciliation`, `invoice::invoice`,
-//! `record::read_alone`, `record::write`, `record::write_plain`, `month::settle`, `month::month_sums`) checks its own
-//! input, refuses as 01 and 02 say, and has an answer for every machine value. A service that they lend an output takes
-//! its length and hands back the figures, so that refused calls have nothing to write into.
+//! `periodisation::periodisation`, `plan::plan`, `reconciliation::reconciliation`, `reconciliation::amounts`,
+//! `invoice::invoice`, `record::read_alone`, `record::write`, `record::write_plain`, `month::settle`,
+//! `month::month_sums`) checks its own input, refuses as 01 and 02 say, and has an answer for every machine value. A service
+//! that they lend an output takes its length and hands back the figures, so that refused calls have nothing to write into.
 
 pub mod bench;
 pub mod brp;

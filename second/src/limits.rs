@@ -60,6 +60,9 @@ pub const DISTRIBUTED_WH: Range = -1..=2_000_000_001;
 /// "periodised outside 0..2,000,000,000" (Refusal numbers, reconciliation of one hour)
 pub const PERIODISED_WH: Range = 0..=2_000_000_000;
 
+/// "19, a difference beyond 2,000,000,001 Wh of either sign" (02, W6)
+pub const DIFFERENCE_WH: Range = -2_000_000_001..=2_000_000_001;
+
 /// "Price -5,000,000..5,000,000." (øre per MWh)
 pub const PRICE_ORE: Range = -5_000_000..=5_000_000;
 /// "in millionths of an øre" (Reconciliation): Wh times øre per MWh.

@@ -9,7 +9,7 @@
 //!   hours`, `--report preview` or `--report brp` another of those; a long campaign is run with `--threads T`, and with
 //!   `--feed whole` (or `pieces`) instead of both.
 //! - `second example NAME` writes the month file of an example (s1, full, silent, d3, before, after, ore,
-//!   yearly1, yearly2, yearly3, brp).
+//!   yearly1, yearly2, yearly3, brp, volumes, priced).
 //! - `second bench-file ..` writes a month file of a chosen size (bench/README.md).
 
 use std::io::{self, Read, Write};
@@ -28,7 +28,7 @@ const USAGE: &str = "usage: second statement|hours|preview|brp < FILE
        second make --seed S --count N --out DIR
        second check --program PATH --seed S --count N [--report statement|hours|preview|brp]
            [--feed whole|pieces|both] [--threads T]
-       second example s1|full|silent|d3|before|after|ore|yearly1|yearly2|yearly3|brp
+       second example s1|full|silent|d3|before|after|ore|yearly1|yearly2|yearly3|brp|volumes|priced
        second bench-file --hours H --parties P --series fixed|refixed --readings N|most --span HOURS
            [--brps N] [--fault byte|count]";
 

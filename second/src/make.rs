@@ -2,8 +2,9 @@
 //!
 //! Seed and file number alone decide a file. Every third file is valid; the shapes and the damages are gone through in
 //! turn, their details are random. Most months are refixed, so that a final run gets past its 17 and to what comes after;
-//! about a fifth are not. "Valid" is said of a provisional run: a final one refuses a valid month that is not refixed. A third
-//! of the months, valid or to be damaged, has its parties as 12 records, under BRPs of every kind.
+//! about a fifth are not. Most have their prices, so that a run that gives amounts gets past its 3; about a seventh have
+//! none. "Valid" is said of a provisional run of quantities, which takes them all. A third of the months, valid or to be
+//! damaged, has its parties as 12 records, under BRPs of every kind.
 
 use std::collections::BTreeSet;
 use std::fmt;
@@ -27,7 +28,7 @@ use crate::record::{Heading, HourFlows, Reading, Weights};
 use crate::refusal::{Number, Refusal};
 use crate::report::Report;
 use crate::residual::{curve_number, residual_wh};
-use crate::setting::Setting;
+use crate::setting::{Prices, Setting, Stage};
 
 /// What the maker of a file meant it to give in a run. The expected output comes from the file itself; the tests hold the
 /// two against each other.
@@ -47,25 +48,57 @@ pub struct MadeFile {
     pub bytes: Vec<u8>,
     /// Whether the month was made with a refixed series.
     pub refixed: bool,
-    /// What a provisional run is to give.
-    pub provisional_aim: Aim,
+    /// Of a month made without prices, the record that stands where the price of hour 0 would.
+    pub unpriced_at: Option<usize>,
+    /// What a provisional run of quantities is to give.
+    pub lenient_aim: Aim,
 }
 
 impl MadeFile {
-    /// What a run of this setting is to give. Where there are no 06 records a final run has 17 in place of acceptance and of
-    /// every refusal that comes after the file is read.
-    pub fn aim(&self, setting: Setting) -> Aim {
-        let is_read = match self.provisional_aim {
-            Aim::Accepted => true,
-            Aim::Refused(refusal) => is_after_the_reading(refusal.number),
-            Aim::Anything => false,
-        };
-        if setting == Setting::Final && !self.refixed && is_read {
-            Aim::Refused(Number::NoRefixedSeries.at(0))
-        } else {
-            self.provisional_aim
+    /// The file of these bytes, made of this draft as a provisional run of quantities reads it.
+    pub fn new(
+        number: u64,
+        name: &'static str,
+        draft: &Draft,
+        bytes: Vec<u8>,
+        lenient_aim: Aim,
+    ) -> MadeFile {
+        MadeFile {
+            number,
+            name,
+            bytes,
+            refixed: !draft.refixed.is_empty(),
+            unpriced_at: draft.prices.is_empty().then(|| draft.at_price(0)),
+            lenient_aim,
         }
     }
+
+    /// What a run of this setting is to give. Where there are no prices a run that gives amounts has 3 there in place of
+    /// acceptance and of every refusal that comes later. Where there are no 06 records a final run has 17 in place of
+    /// acceptance and of every refusal that comes after the file is read.
+    pub fn aim(&self, setting: Setting) -> Aim {
+        let refusal = match self.lenient_aim {
+            Aim::Anything => return Aim::Anything,
+            Aim::Accepted => None,
+            Aim::Refused(refusal) => Some(refusal),
+        };
+        let of_reading = refusal.filter(|refusal| !is_after_the_reading(refusal.number));
+        if let (Prices::Needed, Some(record)) = (setting.prices, self.unpriced_at) {
+            if !of_reading.is_some_and(|refusal| is_before_3_at(record, refusal)) {
+                return Aim::Refused(Number::OutOfOrder.at(record));
+            }
+        }
+        if setting.stage == Stage::Final && !self.refixed && of_reading.is_none() {
+            return Aim::Refused(Number::NoRefixedSeries.at(0));
+        }
+        self.lenient_aim
+    }
+}
+
+/// "record by record: 2, then 1, 3": whether a refusal of the reading comes before a 3 at this record.
+fn is_before_3_at(record: usize, refusal: Refusal) -> bool {
+    let of_record = matches!(refusal.number, Number::UnknownKind | Number::BrokenFile);
+    refusal.place < record || (refusal.place == record && of_record)
 }
 
 /// "Then 6; then the fixed hours in order, each 7, 8, 9; .. 10 by hour; 13 by reading; 14 by hour", and 18 before the 13 of
@@ -93,13 +126,7 @@ pub fn file(seed: u64, number: u64) -> MadeFile {
     }
     let (name, shape) = SHAPES[(number / 3) as usize % SHAPES.len()];
     let draft = shape(random);
-    MadeFile {
-        number,
-        name,
-        bytes: draft.bytes(),
-        refixed: !draft.refixed.is_empty(),
-        provisional_aim: Aim::Accepted,
-    }
+    MadeFile::new(number, name, &draft, draft.bytes(), Aim::Accepted)
 }
 
 /// The first so many files of a seed.
@@ -109,7 +136,7 @@ pub fn files(seed: u64, count: u64) -> impl Iterator<Item = MadeFile> {
 
 /// Writes the files of a seed as NNNNNNN.month and what each program must print as NNNNNNN.statement, .hours, .preview
 /// and .brp. Tells the tally of each setting.
-pub fn write_files(seed: u64, count: u64, directory: &Path) -> io::Result<[Tally; 2]> {
+pub fn write_files(seed: u64, count: u64, directory: &Path) -> io::Result<[Tally; 4]> {
     fs::create_dir_all(directory)?;
     let mut tallies = Setting::ALL.map(Tally::new);
     for made in files(seed, count) {
@@ -135,8 +162,10 @@ pub struct Tally {
     pub not_refixed: u64,
     /// Of the accepted ones, those whose parties are 12 records.
     pub of_12_records: u64,
+    /// Of the accepted ones, those without prices.
+    pub without_prices: u64,
     /// By refusal number.
-    pub refused: [u64; 19],
+    pub refused: [u64; 20],
 }
 
 impl Tally {
@@ -147,15 +176,16 @@ impl Tally {
             of_full_size: 0,
             not_refixed: 0,
             of_12_records: 0,
-            refused: [0; 19],
+            without_prices: 0,
+            refused: [0; 20],
         }
     }
 
     /// The refusals that a file can get in this setting: 1 to 15, a final run's 17, and 18.
     fn numbers(&self) -> impl Iterator<Item = usize> {
-        let of_setting = match self.setting {
-            Setting::Final => Some(17),
-            Setting::Provisional => None,
+        let of_setting = match self.setting.stage {
+            Stage::Final => Some(17),
+            Stage::Provisional => None,
         };
         (1..=15).chain(of_setting).chain([18])
     }
@@ -171,6 +201,7 @@ impl Tally {
                 );
                 self.not_refixed += u64::from(month.refixed_wh.is_empty());
                 self.of_12_records += u64::from(month.file.parties[0].brp_gln.is_some());
+                self.without_prices += u64::from(month.file.prices.is_empty());
             }
             Err(refusal) => self.refused[refusal.number as usize] += 1,
         }
@@ -182,6 +213,7 @@ impl Tally {
         self.of_full_size += other.of_full_size;
         self.not_refixed += other.not_refixed;
         self.of_12_records += other.of_12_records;
+        self.without_prices += other.without_prices;
         for (count, more) in self.refused.iter_mut().zip(other.refused) {
             *count += more;
         }
@@ -189,7 +221,7 @@ impl Tally {
 
     /// Fails, naming them, if some of the refusals of the setting did not occur, or no accepted month of full size or none
     /// of less, or none of 02 records or none of 12, or in provisional runs no accepted month that is refixed or none that is
-    /// not.
+    /// not, or in runs of quantities no accepted month with prices or none without.
     pub fn complete(&self) -> Result<(), String> {
         let mut missing: Vec<String> = self
             .numbers()
@@ -211,8 +243,14 @@ impl Tally {
         if self.accepted == self.not_refixed {
             missing.push("accepted, refixed".to_string());
         }
-        if self.setting == Setting::Provisional && self.not_refixed == 0 {
+        if self.setting.stage == Stage::Provisional && self.not_refixed == 0 {
             missing.push("accepted, not refixed".to_string());
+        }
+        if self.accepted == self.without_prices {
+            missing.push("accepted, with prices".to_string());
+        }
+        if self.setting.prices == Prices::Optional && self.without_prices == 0 {
+            missing.push("accepted, without prices".to_string());
         }
         if missing.is_empty() {
             Ok(())
@@ -224,14 +262,18 @@ impl Tally {
 
 impl fmt::Display for Tally {
     fn fmt(&self, out: &mut fmt::Formatter) -> fmt::Result {
-        writeln!(out, "{} runs", self.setting.word())?;
+        writeln!(out, "{}", self.setting.words())?;
         for number in self.numbers() {
             writeln!(out, "refused {number}: {}", self.refused[number])?;
         }
         writeln!(
             out,
-            "accepted: {}, of which of full size: {}, of 12 records: {}, not refixed: {}",
-            self.accepted, self.of_full_size, self.of_12_records, self.not_refixed
+            "accepted: {}, of which of full size: {}, of 12 records: {}, not refixed: {}, without prices: {}",
+            self.accepted,
+            self.of_full_size,
+            self.of_12_records,
+            self.not_refixed,
+            self.without_prices
         )
     }
 }
@@ -351,7 +393,7 @@ pub const SHAPES: &[(&str, Shape)] = &[
         add_reading(random, &mut draft, hour, hour + 1, READING_WH_MAX as u32);
         draft
     }),
-    ("65,536 bytes", longest_file),
+    ("65,536 bytes", |random| longest_file(random, true)),
     ("heading at its limits", |random| {
         let refixed = is_refixed(random);
         let mut draft = small_month(random, refixed);
@@ -438,10 +480,13 @@ pub const SHAPES: &[(&str, Shape)] = &[
         draft
     }),
     ("parts of an øre, of suppliers of a few BRPs", |random| {
-        let (parties, refixed) = (4 + random.below(12), is_refixed(random));
-        let shares = shares_of_sum(random, parties, 97);
-        let mut draft = month_of_shares(random, 4, shares, refixed);
-        set_residuals(random, &mut draft.fixed, 1_000..=2_000);
+        // Refixed: the BRP program is final.
+        let parties = 20 + random.below(44);
+        let shares = shares_of_sum(random, parties, 997);
+        let mut draft = month_of_shares(random, 4, shares, true);
+        for series in [&mut draft.fixed, &mut draft.refixed] {
+            set_residuals(random, series, 1_000..=2_000);
+        }
         add_readings(random, &mut draft, parties);
         set_prices(random, &mut draft, &[300_000, -450_000, 250_000, 730_001]);
         give_brps(random, &mut draft.parties, a_few);
@@ -451,11 +496,52 @@ pub const SHAPES: &[(&str, Shape)] = &[
         let refixed = is_refixed(random);
         month(random, 745, 1, refixed, 30)
     }),
+    ("no prices", |random| {
+        without_prices(small_month(random, true))
+    }),
+    ("no prices, not refixed", |random| {
+        without_prices(small_month(random, false))
+    }),
+    ("no prices and no readings", |random| {
+        let refixed = is_refixed(random);
+        let mut draft = without_prices(small_month(random, refixed));
+        draft.readings.clear();
+        draft
+    }),
+    ("no prices, an 08 where they would begin", |random| {
+        let (hours, parties) = (1 + random.below(6), 1 + random.below(5));
+        let refixed = is_refixed(random);
+        let mut draft = without_prices(month(random, hours, parties, refixed, 0));
+        let of_month = random.below(3);
+        add_readings_of_kinds(random, &mut draft, of_month, 1);
+        let is_04 = |reading: &Reading| reading.weights.is_none();
+        draft.readings.sort_by_key(is_04);
+        draft
+    }),
+    ("no prices, 12 records", |random| {
+        let refixed = is_refixed(random);
+        let mut draft = without_prices(small_month(random, refixed));
+        give_any_brps(random, &mut draft.parties);
+        draft
+    }),
+    ("no prices, 745 hours, 64 parties", |random| {
+        let (readings, refixed) = (random.below(400), is_refixed(random));
+        without_prices(month(random, 745, 64, refixed, readings))
+    }),
+    ("no prices, 65,536 bytes", |random| {
+        longest_file(random, false)
+    }),
 ];
 
 /// Whether a month gets a refixed series: four times in five.
 pub fn is_refixed(random: &mut Random) -> bool {
     !random.once_in(5)
+}
+
+/// The month before its prices have come: "Prices reach us days after the volumes." (02, W6)
+pub fn without_prices(mut draft: Draft) -> Draft {
+    draft.prices.clear();
+    draft
 }
 
 /// A month of random figures, accepted by its making.
@@ -954,13 +1040,16 @@ fn curve_number_at_limit(random: &mut Random) -> Draft {
 
 /// A file of exactly 65,536 bytes: readings fill what hours and parties leave, over 6,000 of them in a month of few hours,
 /// or 2,500 if all are over several months.
-fn longest_file(random: &mut Random) -> Draft {
+fn longest_file(random: &mut Random, priced: bool) -> Draft {
     loop {
         let few_hours = 1 + random.below(9);
-        // With 02 records and an even number of hours no number of readings comes to it.
+        // With 02 records and an even number of prices no number of readings comes to it.
         let hours = *random.pick(&[few_hours, 301, 511, 739, 745]);
         let (parties, refixed) = (1 + random.below(64), is_refixed(random));
         let mut draft = month(random, hours, parties, refixed, 0);
+        if !priced {
+            draft = without_prices(draft);
+        }
         let left = FILE_BYTES_MAX - draft.bytes().len();
         let most = left / BYTES_OVER_MONTHS;
         let some = random.below(most + 1);

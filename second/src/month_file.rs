@@ -1,4 +1,4 @@
-//! The walk through a whole month file, record by record. (01, "The month file" and "Refusal numbers"; 02, W3, W5)
+//! The walk through a whole month file, record by record. (01, "The month file" and "Refusal numbers"; 02, W3, W5, W6)
 //!
 //! "The file is read first, record by record: 2, then 1, 3, 4, 5, 11, 12, 15." One pass over the records, and for each
 //! record all tests in that order before the next record is looked at.
@@ -8,6 +8,7 @@ use crate::record::{
     first_record, judge_fields, Heading, HourFlows, Party, Price, Reading, Record, Surroundings,
 };
 use crate::refusal::{Number, Refusal};
+use crate::setting::Prices;
 
 /// An accepted file. The GLNs are parts of the file's bytes.
 #[derive(Clone, Debug)]
@@ -18,13 +19,14 @@ pub struct MonthFile<'a> {
     pub fixed: Vec<HourFlows>,
     /// Empty if the file has no refixed series.
     pub refixed: Vec<HourFlows>,
+    /// Empty if the file has no prices, which only a run of quantities takes.
     pub prices: Vec<Price>,
     /// "'reading' in 01 counts 04 and 08 together" (02, W3): both, in file order.
     pub readings: Vec<Reading>,
 }
 
-/// Reads a whole file, or refuses it with 1 to 5, 11, 12 or 15 at a record.
-pub fn read(file: &[u8]) -> Result<MonthFile<'_>, Refusal> {
+/// Reads a whole file, or refuses it with 1 to 5, 11, 12 or 15 at a record. The caller says whether it needs the prices.
+pub fn read(file: &[u8], prices: Prices) -> Result<MonthFile<'_>, Refusal> {
     // "An empty or too long file is refused before all else, place 0"
     if file.is_empty() || file.len() > FILE_BYTES_MAX {
         return Err(Number::BrokenFile.at(0));
@@ -35,7 +37,7 @@ pub fn read(file: &[u8]) -> Result<MonthFile<'_>, Refusal> {
     loop {
         // A cut body and a missing end alike: "the place is the number of complete records".
         let (record, after) = first_record(rest).map_err(|number| number.at(records))?;
-        if !so_far.expects(&record) {
+        if !so_far.expects(&record, prices) {
             return Err(Number::OutOfOrder.at(records));
         }
         judge_fields(&record, &so_far.surroundings()).map_err(|number| number.at(records))?;
@@ -69,8 +71,9 @@ struct SoFar<'a> {
 impl<'a> SoFar<'a> {
     /// "Order: one 01; P times 02; H times 03; none or H times 06; H times 05; any number of 04; one 07. Hour fields
     /// run 0, 1, 2 and so on". An 08 "stands among the 04 records" (02, W3). A 12 "may stand in place of 02 for all
-    /// parties of a file", and "a mixture of 02 and 12 is 3" (02, W5).
-    fn expects(&self, record: &Record) -> bool {
+    /// parties of a file", and "a mixture of 02 and 12 is 3" (02, W5). "A file for the first alone may have no 05
+    /// records" (02, W6): then it has none, and where it has one it has H.
+    fn expects(&self, record: &Record, prices: Prices) -> bool {
         let Some(heading) = self.heading else {
             return matches!(record, Record::Heading(_));
         };
@@ -78,6 +81,10 @@ impl<'a> SoFar<'a> {
         let complete = |length: usize| length == usize::from(heading.hours);
         // The hour that is due in a series of which so many are read; none is due after the last.
         let due = |length: usize, hour: u16| !complete(length) && usize::from(hour) == length;
+        // "none or H times 06"
+        let series_complete =
+            complete(self.fixed.len()) && (self.refixed.is_empty() || complete(self.refixed.len()));
+        let no_prices = prices == Prices::Optional && self.prices.is_empty();
         match record {
             Record::Heading(_) => false,
             Record::Party(party) => !parties_complete && self.is_as_before(party),
@@ -85,14 +92,15 @@ impl<'a> SoFar<'a> {
             Record::Refixed(flows) => {
                 complete(self.fixed.len())
                     && self.prices.is_empty()
+                    && self.readings.is_empty()
                     && due(self.refixed.len(), flows.hour)
             }
             Record::Price(price) => {
-                complete(self.fixed.len())
-                    && (self.refixed.is_empty() || complete(self.refixed.len()))
-                    && due(self.prices.len(), price.hour)
+                series_complete && self.readings.is_empty() && due(self.prices.len(), price.hour)
             }
-            Record::Reading(_) | Record::End(_) => complete(self.prices.len()),
+            Record::Reading(_) | Record::End(_) => {
+                series_complete && (complete(self.prices.len()) || no_prices)
+            }
         }
     }
 

@@ -42,6 +42,8 @@ pub enum Number {
     NoRefixedSeries = 17,
     /// W3: "weight before plus the month's own weight exceeds the whole, or the whole is over 8,784,000,000,000"
     TooMuchWeight = 18,
+    /// W6: "a difference beyond 2,000,000,001 Wh of either sign"
+    DifferenceTooLarge = 19,
 }
 
 impl Number {

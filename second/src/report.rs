@@ -41,11 +41,12 @@ impl Report {
     }
 
     /// "The statement program keeps final as its setting; a preview program asks for provisional" (02, W1). All
-    /// others are final too.
+    /// others are final too. The hours alone print no money: "A file for the first alone may have no 05 records" (02, W6).
     pub fn setting(self) -> Setting {
         match self {
-            Report::Statement | Report::Hours | Report::Brp => Setting::Final,
-            Report::Preview => Setting::Provisional,
+            Report::Statement | Report::Brp => Setting::FINAL,
+            Report::Hours => Setting::FINAL.of_quantities(),
+            Report::Preview => Setting::PROVISIONAL,
         }
     }
 

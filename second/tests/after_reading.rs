@@ -7,7 +7,7 @@ use second::draft::{measured_hour, Draft};
 use second::examples::s1;
 use second::month::month_sums;
 use second::record::Reading;
-use second::setting::Setting;
+use second::setting::Stage;
 
 fn changed(change: impl FnOnce(&mut Draft)) -> Vec<u8> {
     let mut draft = s1();
@@ -214,13 +214,13 @@ fn a28_14_sums_all_parties_of_an_hour() {
 #[test]
 fn a29_16_is_last_and_only_of_a_call_with_lent_outputs() {
     let good = s1().bytes();
-    assert_eq!(told(month_sums(&good, Setting::Final, 2)), (16, 0));
-    assert_eq!(told(month_sums(&good, Setting::Final, 4)), (16, 0));
-    let sums = month_sums(&good, Setting::Final, 3).unwrap();
+    assert_eq!(told(month_sums(&good, Stage::Final, 2)), (16, 0));
+    assert_eq!(told(month_sums(&good, Stage::Final, 4)), (16, 0));
+    let sums = month_sums(&good, Stage::Final, 3).unwrap();
     assert_eq!(sums[2].loss_wh, 2_800_000);
     assert_eq!(sums[0].amount_millionths, 266_850_000_000);
     // Every other refusal comes first.
-    assert_eq!(told(month_sums(&[], Setting::Final, 0)), (1, 0));
+    assert_eq!(told(month_sums(&[], Stage::Final, 0)), (1, 0));
     let crowded = changed(|draft| draft.readings = vec![reading(0, 0, 1, 1_000_000_000); 3]);
-    assert_eq!(told(month_sums(&crowded, Setting::Final, 0)), (14, 0));
+    assert_eq!(told(month_sums(&crowded, Stage::Final, 0)), (14, 0));
 }

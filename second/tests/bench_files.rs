@@ -38,7 +38,7 @@ fn a_file_is_of_its_size() {
         } else {
             assert_accepted_as_provisional(&file);
         }
-        let month = settle(&file, Setting::Provisional).unwrap();
+        let month = settle(&file, Setting::PROVISIONAL).unwrap();
         assert_eq!(
             (month.hours.len(), month.file.parties.len()),
             (hours, parties)
@@ -66,7 +66,7 @@ fn the_most_readings_leave_no_room_for_another() {
         let size = size(hours, parties, refixed, Readings::Most, hours);
         let file = bench_file(&size, None);
         assert!((FILE_BYTES_MAX - 9..=FILE_BYTES_MAX).contains(&file.len()));
-        let month = settle(&file, Setting::Provisional).unwrap();
+        let month = settle(&file, Setting::PROVISIONAL).unwrap();
         assert_eq!(month.refixed_wh.is_empty(), !refixed);
         assert_eq!(month.file.readings.len(), readings);
     }
@@ -112,7 +112,7 @@ fn the_parties_of_a_file_are_under_so_many_brps() {
         let file = bench_file(&size, None);
         assert_accepted(&file);
         assert_eq!(brp(&file).lines().count(), brps + 2);
-        let month = settle(&file, Setting::Final).unwrap();
+        let month = settle(&file, Setting::FINAL).unwrap();
         let glns: Vec<_> = month.file.parties.iter().map(|p| p.brp_gln).collect();
         assert!(glns.iter().all(Option::is_some));
         assert!(glns[..brps].windows(2).all(|two| two[0] > two[1]));

@@ -76,13 +76,13 @@ fn breach(month: &Month) -> Option<&'static str> {
 fn demand_3_holds_for_every_valid_shape() {
     let mut months = 0;
     for seed in 31..34 {
-        for made in files(seed, 120).filter(|made| made.provisional_aim == Aim::Accepted) {
-            let month = settle(&made.bytes, Setting::Provisional).unwrap();
+        for made in files(seed, 144).filter(|made| made.lenient_aim == Aim::Accepted) {
+            let month = settle(&made.bytes, Setting::PROVISIONAL.of_quantities()).unwrap();
             assert_eq!(breach(&month), None, "{}", made.name);
             months += 1;
         }
     }
-    assert_eq!(months, 120);
+    assert_eq!(months, 144);
 }
 
 /// S1's parties with these shares, three hours of this residual, and no readings.
@@ -100,7 +100,7 @@ fn three_hours(shares_kwh: [u64; 3], residual_wh: i64) -> Draft {
 /// The breach of a month whose figures are replaced by these.
 fn breach_of(shares_kwh: [u64; 3], residual_wh: i64, hours: [[i64; 3]; 3]) -> Option<&'static str> {
     let file = three_hours(shares_kwh, residual_wh).bytes();
-    let mut month = settle(&file, Setting::Final).unwrap();
+    let mut month = settle(&file, Setting::FINAL).unwrap();
     assert_eq!(breach(&month), None);
     for (hour, figures) in month.hours.iter_mut().zip(hours) {
         hour.distributed_wh = figures.to_vec();

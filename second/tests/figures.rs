@@ -31,7 +31,7 @@ total 126000000 123200000 2800000 0 0
 #[test]
 fn s1_hours_are_those_of_h2_6_3() {
     let file = examples::s1().bytes();
-    let month = second::month::settle(&file, Setting::Final).unwrap();
+    let month = second::month::settle(&file, Setting::FINAL).unwrap();
     assert_eq!(month.curve, [4_000_000, 5_000_000, 4_000_000]);
     let distributed: Vec<_> = month.hours.iter().map(|h| &h.distributed_wh[..]).collect();
     assert_eq!(
@@ -42,18 +42,12 @@ fn s1_hours_are_those_of_h2_6_3() {
             [5_850_000, 23_400_000, 9_750_000]
         ]
     );
-    let loss: Vec<_> = month.hours.iter().map(|h| h.reconciled.loss_wh).collect();
+    let loss: Vec<_> = month.hours.iter().map(|h| h.loss_wh).collect();
     assert_eq!(loss, [1_100_000, 600_000, 1_100_000]);
-    let amounts_dkk: Vec<Vec<f64>> = month
-        .hours
-        .iter()
-        .map(|hour| {
-            let amounts = hour.reconciled.amounts_millionths.iter();
-            amounts.map(|&amount| amount as f64 / 1e8).collect()
-        })
-        .collect();
+    let amounts = month.amounts_millionths().unwrap().into_iter();
+    let amounts_dkk: Vec<f64> = amounts.map(|amount| amount as f64 / 1e8).collect();
     assert_eq!(
-        amounts_dkk,
+        amounts_dkk.chunks(3).collect::<Vec<_>>(),
         [
             [565.5, -957.0, 391.5],
             [858.0, -1221.0, 363.0],

@@ -151,7 +151,7 @@ fn fixed_and_applied_statuses_are_told_apart() {
     estimated(&mut draft);
     draft.refixed.clear();
     let file = draft.bytes();
-    let month = settle(&file, Setting::Provisional).unwrap();
+    let month = settle(&file, Setting::PROVISIONAL).unwrap();
     assert_eq!(
         statuses(&text_of(&month)),
         [
@@ -187,14 +187,17 @@ fn a_refused_file_has_its_refusal_line_alone() {
     );
 }
 
-/// Heading and refusals are the statement's, for files of every shape and damage.
+/// Heading and refusals are the statement's, for files of every shape and damage. Only where the statement has 3 can the
+/// hours, which need no prices, have something else.
 #[test]
 fn the_first_line_is_the_statements() {
     for made in files(41, 600) {
         let (hours, statement) = (hours(&made.bytes), statement(&made.bytes));
         let (first, rest) = hours.split_once('\n').unwrap();
         let (expected, _) = statement.split_once('\n').unwrap();
-        assert_eq!(first, expected, "{}", made.name);
+        if !expected.starts_with("refused 3 ") {
+            assert_eq!(first, expected, "{}", made.name);
+        }
         assert_eq!(rest.is_empty(), first.starts_with("refused "));
     }
 }
@@ -280,8 +283,8 @@ fn breach(text: &str, hours: usize, glns: &[&[u8]], share_sum_kwh: u64) -> Optio
 fn every_line_holds_for_every_valid_shape() {
     let (mut months, mut refixed, mut negative, mut positive) = (0, 0, 0, 0);
     for seed in 42..45 {
-        for made in files(seed, 120).filter(|made| made.provisional_aim == Aim::Accepted) {
-            let month = settle(&made.bytes, Setting::Provisional).unwrap();
+        for made in files(seed, 144).filter(|made| made.lenient_aim == Aim::Accepted) {
+            let month = settle(&made.bytes, Setting::PROVISIONAL.of_quantities()).unwrap();
             let glns: Vec<&[u8]> = month.file.parties.iter().map(|party| party.gln).collect();
             let text = text_of(&month);
             let printed = if made.refixed {
@@ -306,15 +309,15 @@ fn every_line_holds_for_every_valid_shape() {
         }
     }
     // The months had something to hold: other residuals applied than fixed, and distances of either sign.
-    assert_eq!(months, 120);
+    assert_eq!(months, 144);
     assert!(refixed > 0 && negative > 0 && positive > 0);
 }
 
 /// The hours' columns add up to the statement's total line.
 #[test]
 fn the_hours_add_up_to_the_statement() {
-    for made in files(45, 120).filter(|made| made.provisional_aim == Aim::Accepted) {
-        let month = settle(&made.bytes, Setting::Provisional).unwrap();
+    for made in files(45, 144).filter(|made| made.aim(Setting::PROVISIONAL) == Aim::Accepted) {
+        let month = settle(&made.bytes, Setting::PROVISIONAL).unwrap();
         let text = text_of(&month);
         let mut sums = [0; 3];
         for (hour, line) in text.lines().skip(1).take(month.hours.len()).enumerate() {
@@ -333,7 +336,7 @@ fn the_hours_add_up_to_the_statement() {
 /// What the text says of three hours of this residual among equal shares whose figures are replaced by these.
 fn text_of_figures(residual_wh: i64, figures: [[i64; 3]; 3]) -> String {
     let file = month_of(&[1_000_000; 3], &[residual_wh; 3]).bytes();
-    let mut month = settle(&file, Setting::Final).unwrap();
+    let mut month = settle(&file, Setting::FINAL).unwrap();
     for (hour, figures) in month.hours.iter_mut().zip(figures) {
         hour.distributed_wh = figures.to_vec();
     }

@@ -13,13 +13,13 @@ use second::check::{first_difference, Check, Feed};
 use second::damage::{BYTES_FAULTS, DRAFT_FAULTS, RANDOM_DAMAGES};
 use second::draft::Draft;
 use second::limits::FILE_BYTES_MAX;
-use second::make::{file, files, month, write_files, Aim, MadeFile, Tally, SHAPES};
+use second::make::{file, files, month, without_prices, write_files, Aim, MadeFile, Tally, SHAPES};
 use second::month::{settle, Month, PartySums};
 use second::random::Random;
 use second::record::{Weights, PARTY_WITH_BRP};
 use second::refusal::Number;
 use second::report::Report;
-use second::setting::Setting;
+use second::setting::{Prices, Setting, Stage};
 
 /// What the maker meant and what the reader says, each from its own side, in either setting.
 #[test]
@@ -29,7 +29,7 @@ fn every_aim_is_met() {
             for setting in Setting::ALL {
                 let answer = settle(&made.bytes, setting).map(|_| ());
                 let MadeFile { number, name, .. } = made;
-                let which = format!("seed {seed} file {number} {name} {}", setting.word());
+                let which = format!("seed {seed} file {number} {name} {}", setting.words());
                 match made.aim(setting) {
                     Aim::Accepted => assert_eq!(answer, Ok(()), "{which}"),
                     Aim::Refused(refusal) => assert_eq!(answer, Err(refusal), "{which}"),
@@ -53,7 +53,7 @@ fn all_refusals_and_sizes_occur_in_300_files_for_every_report() {
         for report in Report::ALL {
             let tally = tally_of(report, seed, 300);
             assert_eq!(tally.complete(), Ok(()), "seed {seed} {}", report.word());
-            assert_eq!(tally.refused[16], 0);
+            assert_eq!((tally.refused[16], tally.refused[19]), (0, 0));
         }
     }
 }
@@ -65,7 +65,7 @@ fn about_a_fifth_of_the_months_are_not_refixed() {
     for damaged in [true, false] {
         let months = made
             .iter()
-            .filter(|made| (made.provisional_aim != Aim::Accepted) == damaged);
+            .filter(|made| (made.lenient_aim != Aim::Accepted) == damaged);
         let (refixed, not_refixed): (Vec<_>, Vec<_>) = months.partition(|made| made.refixed);
         let share = not_refixed.len() as f64 / (refixed.len() + not_refixed.len()) as f64;
         assert!((0.15..0.3).contains(&share), "{share}");
@@ -93,16 +93,16 @@ fn about_a_third_of_the_months_has_12_records() {
     for damaged in [true, false] {
         let months = made
             .iter()
-            .filter(|made| (made.provisional_aim != Aim::Accepted) == damaged);
+            .filter(|made| (made.lenient_aim != Aim::Accepted) == damaged);
         let (of_12, of_02): (Vec<_>, Vec<_>) = months.partition(|made| is_of_12_records(made));
         let share = of_12.len() as f64 / (of_12.len() + of_02.len()) as f64;
         assert!((0.25..0.45).contains(&share), "{share}");
     }
     // Everything that a final run can say is said of months of either kind.
     for of_12 in [true, false] {
-        let mut tally = Tally::new(Setting::Final);
+        let mut tally = Tally::new(Setting::FINAL);
         for made in made.iter().filter(|made| is_of_12_records(made) == of_12) {
-            tally.count(&settle(&made.bytes, Setting::Final));
+            tally.count(&settle(&made.bytes, Setting::FINAL));
         }
         let told = (1..=15).chain([17, 18]);
         let untold: Vec<usize> = told.filter(|&number| tally.refused[number] == 0).collect();
@@ -154,10 +154,92 @@ fn the_damages_of_12_records_are_reached_in_1_500_files() {
         for &(name, number) in DAMAGES_OF_12_RECORDS {
             let named = made.iter().filter(|made| made.name == name);
             let told: Vec<Number> = named
-                .map(|made| settle(&made.bytes, Setting::Final).unwrap_err().number)
+                .map(|made| settle(&made.bytes, Setting::FINAL).unwrap_err().number)
                 .collect();
             assert!(told.len() >= 5, "seed {seed}, {name}: {}", told.len());
             assert!(told.iter().all(|&told| told == number), "{name}");
+        }
+    }
+}
+
+/// Most months have their prices, as all had before W6, so that what comes after them is still told by the programs that need
+/// them; and enough have none.
+#[test]
+fn about_a_seventh_of_the_months_has_no_prices() {
+    let made: Vec<MadeFile> = files(12, 2_400).collect();
+    let valid = made.iter().filter(|made| made.lenient_aim == Aim::Accepted);
+    let good_until_damaged = made
+        .iter()
+        .filter(|made| DRAFT_FAULTS.iter().any(|(name, _)| made.name == *name));
+    for months in [valid.collect::<Vec<_>>(), good_until_damaged.collect()] {
+        let without = months.iter().filter(|made| made.unpriced_at.is_some());
+        let share = without.count() as f64 / months.len() as f64;
+        assert!((0.1..0.2).contains(&share), "{share}");
+    }
+    let [of_amounts, of_quantities] =
+        [Report::Statement, Report::Hours].map(|report| tally_of(report, 12, 2_400));
+    assert!(of_amounts.accepted > 500, "{}", of_amounts.accepted);
+    assert_eq!(of_amounts.without_prices, 0);
+    assert!(of_quantities.without_prices > 60);
+    for number in (1..=15).chain([17, 18]) {
+        let (told, told_in_all) = (of_amounts.refused[number], of_quantities.refused[number]);
+        assert!(
+            told >= 8 && (told_in_all >= told || number == 3),
+            "{number}"
+        );
+    }
+}
+
+/// W6's damages, with what a run that gives amounts refuses each of them with, and a run of quantities.
+const DAMAGES_OF_PRICES: &[(&str, u8, u8)] = &[
+    ("price hour field", 3, 3),
+    ("first price hour field", 3, 3),
+    ("price too large", 4, 4),
+    ("price too low", 4, 4),
+    ("a price too few", 3, 3),
+    ("the first price missing", 3, 3),
+    ("prices that break off", 3, 3),
+    ("prices that break off, and the end", 3, 3),
+    ("a price too many", 3, 3),
+    ("the prices after the readings", 3, 3),
+    ("no prices, but one after a reading", 3, 3),
+    ("no prices, and a refixed hour after a reading", 3, 3),
+    ("a refixed hour after a price", 3, 3),
+    ("a reading where the prices begin", 3, 3),
+    ("a reading where the refixed hours begin", 3, 3),
+    ("an end where the prices begin", 3, 1),
+    ("an end where the refixed hours begin", 3, 1),
+    ("an end where the prices begin, with a wrong count", 3, 15),
+    ("a price out of range, and prices that break off", 4, 4),
+    ("prices that break off, and a party out of range", 3, 3),
+    ("no prices, and an unknown kind in their place", 2, 2),
+    ("no prices, and a cut in their place", 1, 1),
+    ("no prices, and the first party out of range", 3, 4),
+    ("no prices, and the first span", 3, 11),
+    ("no prices, and the last E too large", 3, 12),
+    ("no prices, and a wrong count", 3, 15),
+    ("no prices, and bytes after the end", 3, 1),
+    ("no prices, and W 0", 3, 6),
+    ("no prices, and a missing hour", 3, 7),
+    ("no prices, and too much periodised in an hour", 3, 14),
+];
+
+/// Whatever the seed, the 1,500 files of a comparison have each of them several times.
+#[test]
+fn the_damages_of_prices_are_reached_in_1_500_files() {
+    for seed in [2, 13] {
+        let made: Vec<MadeFile> = files(seed, 1_500).collect();
+        for &(name, of_amounts, of_quantities) in DAMAGES_OF_PRICES {
+            let named = made.iter().filter(|made| made.name == name);
+            let told: Vec<[u8; 2]> = named
+                .map(|made| {
+                    let runs = [Setting::PROVISIONAL, Setting::PROVISIONAL.of_quantities()];
+                    runs.map(|setting| settle(&made.bytes, setting).unwrap_err().number as u8)
+                })
+                .collect();
+            assert!(told.len() >= 4, "seed {seed}, {name}: {}", told.len());
+            let expected = [of_amounts, of_quantities];
+            assert!(told.iter().all(|&told| told == expected), "{name}");
         }
     }
 }
@@ -167,12 +249,16 @@ fn what_did_not_occur_is_named() {
     let random = &mut Random::of_file(1, 1);
     for (setting, end) in [
         (
-            Setting::Final,
-            "; refused 15; refused 17; refused 18; accepted, small; accepted, of full size; accepted, of 02 records; accepted, of 12 records; accepted, refixed",
+            Setting::FINAL,
+            "; refused 15; refused 17; refused 18; accepted, small; accepted, of full size; accepted, of 02 records; accepted, of 12 records; accepted, refixed; accepted, with prices",
         ),
         (
-            Setting::Provisional,
-            "; refused 15; refused 18; accepted, small; accepted, of full size; accepted, of 02 records; accepted, of 12 records; accepted, refixed; accepted, not refixed",
+            Setting::PROVISIONAL,
+            "; refused 15; refused 18; accepted, small; accepted, of full size; accepted, of 02 records; accepted, of 12 records; accepted, refixed; accepted, not refixed; accepted, with prices",
+        ),
+        (
+            Setting::FINAL.of_quantities(),
+            "; refused 18; accepted, small; accepted, of full size; accepted, of 02 records; accepted, of 12 records; accepted, refixed; accepted, with prices; accepted, without prices",
         ),
     ] {
         let mut tally = Tally::new(setting);
@@ -192,12 +278,17 @@ fn what_did_not_occur_is_named() {
         assert_eq!(tally.of_12_records, 2);
         let file = month_of_kind(random, 2, 2, false, false).bytes();
         tally.count(&settle(&file, setting));
-        let provisional = u64::from(setting == Setting::Provisional);
+        let file = without_prices(month_of_kind(random, 2, 2, true, false)).bytes();
+        tally.count(&settle(&file, setting));
+        let provisional = u64::from(setting.stage == Stage::Provisional);
+        let of_quantities = u64::from(setting.prices == Prices::Optional);
         let mut twice = Tally::new(setting);
         twice.add(&tally);
         twice.add(&tally);
-        assert_eq!(twice.accepted, 6 + 2 * provisional);
+        assert_eq!(twice.accepted, 6 + 2 * provisional + 2 * of_quantities);
         assert_eq!((twice.of_full_size, twice.not_refixed), (2, 2 * provisional));
+        assert_eq!(twice.without_prices, 2 * of_quantities);
+        assert_eq!(twice.refused[3], 2 - 2 * of_quantities);
         assert_eq!(twice.of_12_records, 4);
         assert_eq!((twice.refused[1], twice.refused[17]), (2, 2 - 2 * provisional));
         let missing = twice.complete().unwrap_err();
@@ -221,9 +312,9 @@ fn month_of_kind(
 }
 
 #[test]
-fn all_shapes_occur_in_123_files_and_all_damages_in_one_round() {
-    let shapes: BTreeSet<&str> = files(3, 123)
-        .filter(|made| made.provisional_aim == Aim::Accepted)
+fn all_shapes_occur_in_144_files_and_all_damages_in_one_round() {
+    let shapes: BTreeSet<&str> = files(3, 144)
+        .filter(|made| made.lenient_aim == Aim::Accepted)
         .map(|made| made.name)
         .collect();
     assert_eq!(shapes.len(), SHAPES.len());
@@ -259,6 +350,14 @@ fn any_08(month: &Month, is_so: fn(Weights, u64, u32) -> bool) -> bool {
     })
 }
 
+/// The month sums of a month with prices; none of one without.
+fn sums_of(month: &Month) -> Vec<PartySums> {
+    match month.file.prices[..] {
+        [] => Vec::new(),
+        _ => month.party_sums(),
+    }
+}
+
 /// What the names of the shapes say.
 const PROPERTIES: &[(&str, Property)] = &[
     ("65,536 bytes", |made, _| made.bytes.len() == FILE_BYTES_MAX),
@@ -292,10 +391,11 @@ const PROPERTIES: &[(&str, Property)] = &[
         fixed.any(|flows| flows.net_supply_wh == -8_000_000_000)
     }),
     ("negative prices", |_, month| {
-        month.file.prices.iter().all(|price| price.price_ore < 0)
+        let prices = &month.file.prices;
+        !prices.is_empty() && prices.iter().all(|price| price.price_ore < 0)
     }),
     ("negative losses", |_, month| {
-        month.hours.iter().all(|hour| hour.reconciled.loss_wh < 0)
+        month.hours.iter().all(|hour| hour.loss_wh < 0)
     }),
     ("no consumption", |_, month| {
         month.fixed_wh.iter().all(|&residual| residual == 0)
@@ -358,11 +458,11 @@ const PROPERTIES: &[(&str, Property)] = &[
         hours.any(|hour| hour.distributed_wh.contains(&-1))
     }),
     ("half an øre", |_, month| {
-        let mut sums = month.party_sums().into_iter();
+        let mut sums = sums_of(month).into_iter();
         sums.any(|sums| sums.amount_millionths % 1_000_000 == 500_000)
     }),
     ("a tie for a missing øre", |_, month| {
-        let sums = month.party_sums();
+        let sums = sums_of(month);
         let rounded = |sums: &PartySums| {
             let (amount, ore) = (sums.amount_millionths, 1_000_000);
             let is_up = sums.invoice_ore > amount.div_euclid(ore);
@@ -423,8 +523,38 @@ const PROPERTIES: &[(&str, Property)] = &[
         })
     }),
     ("largest amount", |_, month| {
-        let mut sums = month.party_sums().into_iter();
+        let mut sums = sums_of(month).into_iter();
         sums.any(|sums| sums.amount_millionths.abs() == 7_450_000_000_000_000_000)
+    }),
+    ("no prices, and readings", |_, month| {
+        month.file.prices.is_empty() && month.file.readings.len() > 2
+    }),
+    ("no prices and no readings", |_, month| {
+        month.file.prices.is_empty() && month.file.readings.is_empty()
+    }),
+    ("a 04 where the prices would begin", |_, month| {
+        let first = month.file.readings.first();
+        month.file.prices.is_empty() && first.is_some_and(|reading| reading.weights.is_none())
+    }),
+    ("an 08 where the prices would begin", |_, month| {
+        let first = month.file.readings.first();
+        month.file.prices.is_empty() && first.is_some_and(|reading| reading.weights.is_some())
+    }),
+    ("no prices, 02 records", |_, month| {
+        month.file.prices.is_empty() && month.file.parties[0].brp_gln.is_none()
+    }),
+    ("no prices, 12 records", |_, month| {
+        month.file.prices.is_empty() && brps_are(month, |_, _| true)
+    }),
+    ("no prices, one hour", |_, month| {
+        month.file.prices.is_empty() && month.hours.len() == 1
+    }),
+    ("no prices, full size", |_, month| {
+        let is_full = month.hours.len() == 745 && month.file.parties.len() == 64;
+        month.file.prices.is_empty() && is_full
+    }),
+    ("no prices, 65,536 bytes", |made, month| {
+        month.file.prices.is_empty() && made.bytes.len() == FILE_BYTES_MAX
     }),
 ];
 
@@ -432,9 +562,10 @@ const PROPERTIES: &[(&str, Property)] = &[
 #[test]
 fn valid_files_reach_the_limits() {
     let mut reached = BTreeSet::new();
-    for made in files(5, 2_400).filter(|made| made.provisional_aim == Aim::Accepted) {
-        let month = settle(&made.bytes, Setting::Provisional).unwrap();
+    for made in files(5, 2_400).filter(|made| made.lenient_aim == Aim::Accepted) {
+        let month = settle(&made.bytes, Setting::PROVISIONAL.of_quantities()).unwrap();
         assert_eq!(month.refixed_wh.is_empty(), !made.refixed);
+        assert_eq!(month.file.prices.is_empty(), made.unpriced_at.is_some());
         for (name, property) in PROPERTIES {
             if !reached.contains(&(made.refixed, name)) && property(&made, &month) {
                 reached.insert((made.refixed, name));
@@ -667,6 +798,37 @@ fn check_finds_wrong_brp_programs() {
         let message = check_report(Report::Brp, &program, 20, 60).err().unwrap();
         let made = left_file(&message, 20);
         assert!(number > 0 || is_of_12_records(&made), "{message}");
+    }
+    fs::remove_dir_all(&directory).unwrap();
+}
+
+/// The wrong programs of W6: the hours that need the prices, a statement that takes a month without them, and one that tells
+/// what comes later in the file before it misses them.
+#[test]
+fn check_finds_programs_that_mind_the_prices_wrongly() {
+    let directory = temporary("wrong-prices");
+    let second = env!("CARGO_BIN_EXE_second");
+    let program = |report: &str, instead: &str| {
+        let text = format!(
+            "file=$(mktemp) && cat > $file && hours=$('{second}' hours < $file)
+             statement=$('{second}' statement < $file)
+             case $statement in 'refused 3 at '*) {instead} ;; *) '{second}' {report} < $file ;; esac
+             rm $file"
+        );
+        script(&directory, &text)
+    };
+    for (report, instead) in [
+        (Report::Hours, "echo \"$statement\""),
+        (Report::Statement, "echo \"$hours\""),
+        (
+            Report::Statement,
+            "case $hours in refused*) echo \"$hours\" ;; *) echo \"$statement\" ;; esac",
+        ),
+    ] {
+        let program = program(report.word(), instead);
+        let message = check_report(report, &program, 21, 300).err().unwrap();
+        let made = left_file(&message, 21);
+        assert!(made.unpriced_at.is_some(), "{message}");
     }
     fs::remove_dir_all(&directory).unwrap();
 }

@@ -379,7 +379,7 @@ fn a105_planned_records_pass_in_month_files() {
         let mut read_wh = 0;
         for (&reading, curve) in planned.iter().zip(&year.curves) {
             let file = month_with(curve, reading);
-            let month = settle(&file, Setting::Final).unwrap();
+            let month = settle(&file, Setting::FINAL).unwrap();
             assert_eq!(month.curve, *curve);
             read_wh += month.party_sums()[usize::from(reading.party)].periodised_wh;
             let mut record = [0; 26];
@@ -539,7 +539,7 @@ fn the_yearly_examples_have_the_planned_records() {
     assert_eq!(month_parts(&year, &planned), parts);
     for (month, &reading) in planned.iter().enumerate() {
         let file = example(&format!("yearly{}", month + 1)).unwrap();
-        let settled = settle(&file, Setting::Final).unwrap();
+        let settled = settle(&file, Setting::FINAL).unwrap();
         assert_eq!(settled.curve, year.curves[month]);
         assert!(settled.file.readings.contains(&reading));
         let party = usize::from(reading.party);

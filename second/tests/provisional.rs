@@ -16,7 +16,7 @@ use second::month_file;
 use second::preview::{self, preview};
 use second::record::Reading;
 use second::report::Report;
-use second::setting::Setting;
+use second::setting::{Prices, Setting, Stage};
 use second::statement::{self, statement};
 
 /// S1 without its refixed series, so that record 10 is the first reading and 19 the end, and with something changed.
@@ -33,10 +33,10 @@ fn only_the_preview_is_provisional() {
     assert_eq!(
         settings,
         [
-            ("statement", Setting::Final),
-            ("hours", Setting::Final),
-            ("preview", Setting::Provisional),
-            ("brp", Setting::Final)
+            ("statement", Setting::FINAL),
+            ("hours", Setting::FINAL.of_quantities()),
+            ("preview", Setting::PROVISIONAL),
+            ("brp", Setting::FINAL)
         ]
     );
     for report in Report::ALL {
@@ -49,8 +49,8 @@ fn only_the_preview_is_provisional() {
 fn a_file_without_06_is_17_in_a_final_run() {
     let file = not_refixed(|_| {});
     assert_accepted_as_provisional(&file);
-    assert_eq!(told(settle(&file, Setting::Final)), (17, 0));
-    assert!(settle(&file, Setting::Provisional).is_ok());
+    assert_eq!(told(settle(&file, Setting::FINAL)), (17, 0));
+    assert!(settle(&file, Setting::PROVISIONAL).is_ok());
     assert_accepted(&s1().bytes());
 }
 
@@ -174,16 +174,16 @@ fn a53_17_comes_before_every_refusal_after_the_reading() {
 fn a53_17_is_of_the_call_on_a_whole_month_too() {
     let file = not_refixed(|_| {});
     for lent in [0, 2, 3, 4] {
-        assert_eq!(told(month_sums(&file, Setting::Final, lent)), (17, 0));
+        assert_eq!(told(month_sums(&file, Stage::Final, lent)), (17, 0));
     }
-    assert_eq!(told(month_sums(&file, Setting::Provisional, 2)), (16, 0));
-    let sums = month_sums(&file, Setting::Provisional, 3).unwrap();
+    assert_eq!(told(month_sums(&file, Stage::Provisional, 2)), (16, 0));
+    let sums = month_sums(&file, Stage::Provisional, 3).unwrap();
     // 130 MWh of fixed figures, of which the first has 15 per cent.
     assert_eq!(sums[0].distributed_wh, 19_500_000);
     let refixed = s1().bytes();
     assert_eq!(
-        month_sums(&refixed, Setting::Provisional, 3),
-        month_sums(&refixed, Setting::Final, 3)
+        month_sums(&refixed, Stage::Provisional, 3),
+        month_sums(&refixed, Stage::Final, 3)
     );
 }
 
@@ -256,13 +256,13 @@ fn the_examples_that_are_refixed_have_no_word() {
 fn final_and_provisional_differ_in_nothing_else() {
     let (mut unread, mut refixed, mut hidden, mut with_word) = (0, 0, 0, 0);
     for made in files(51, 1_500) {
-        let [as_final, as_provisional] = Setting::ALL.map(|setting| settle(&made.bytes, setting));
-        let (statement, hours) = (statement(&made.bytes), hours(&made.bytes));
-        let preview = preview(&made.bytes);
+        let [as_final, as_provisional] =
+            [Setting::FINAL, Setting::PROVISIONAL].map(|setting| settle(&made.bytes, setting));
+        let (statement, preview) = (statement(&made.bytes), preview(&made.bytes));
         let name = made.name;
-        let Ok(file) = month_file::read(&made.bytes) else {
+        let Ok(file) = month_file::read(&made.bytes, Prices::Needed) else {
             assert_eq!(as_final.err(), as_provisional.err(), "{name}");
-            assert!(statement == preview && hours == preview, "{name}");
+            assert_eq!(statement, preview, "{name}");
             unread += 1;
             continue;
         };

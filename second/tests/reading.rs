@@ -4,9 +4,12 @@
 
 mod common;
 
-use common::{assert_accepted, assert_accepted_as_provisional, assert_refused};
+use common::{
+    assert_accepted, assert_accepted_as_provisional, assert_refused, assert_refused_for_amounts,
+};
 use second::draft::Draft;
 use second::examples::s1;
+use second::hours::hours;
 use second::record::{Record, END, FIXED_HOUR};
 
 /// S1 after a change of its fields.
@@ -106,6 +109,15 @@ fn a8_wrong_count_and_bytes_after_is_15() {
     assert_refused(&file, 15, 22);
 }
 
+/// That a reading or an end at this place is 3. Where the refixed hours or the prices begin the hours program takes it, since
+/// a file of quantities alone may have neither (02, W6).
+#[track_caller]
+fn assert_early(file: &[u8], place: usize) {
+    assert_refused_for_amounts(file, 3, place);
+    let is_taken = hours(file) != format!("refused 3 at {place}\n");
+    assert_eq!(is_taken, [7, 10].contains(&place));
+}
+
 #[test]
 fn a9_an_early_end_is_3_whatever_its_count() {
     for place in 0..13 {
@@ -113,12 +125,12 @@ fn a9_an_early_end_is_3_whatever_its_count() {
             let file = records_changed(|records| {
                 records.insert(place, Record::End(count).encode());
             });
-            assert_refused(&file, 3, place);
+            assert_early(&file, place);
             let file = records_changed(|records| {
                 records.truncate(place);
                 records.push(Record::End(count).encode());
             });
-            assert_refused(&file, 3, place);
+            assert_early(&file, place);
         }
     }
     // After the last price an end is in order, with no reading or with some.
@@ -167,7 +179,7 @@ fn a10_a_record_too_many_or_too_few_is_3() {
 fn a10_a_reading_among_the_hours_is_3() {
     for place in 1..13 {
         let file = records_changed(|records| records.insert(place, records[13].clone()));
-        assert_refused(&file, 3, place);
+        assert_early(&file, place);
     }
 }
 

@@ -9,6 +9,7 @@ use second::brp::brp;
 use second::examples::{self, example, full, ore, NAMES};
 use second::invoice::invoice;
 use second::month::settle;
+use second::reconciliation::amounts;
 use second::report::Report;
 use second::setting::Setting;
 use second::statement::statement;
@@ -46,7 +47,7 @@ fn the_silent_month_is_refused_at_its_hour() {
 #[test]
 fn the_full_month_is_a_full_month() {
     let bytes = full().bytes();
-    let month = settle(&bytes, Setting::Final).unwrap();
+    let month = settle(&bytes, Setting::FINAL).unwrap();
     assert_eq!((month.hours.len(), month.file.parties.len()), (744, 40));
     assert!(month.file.readings.len() >= 300);
     assert!(!month.refixed_wh.is_empty() && month.refixed_wh != month.fixed_wh);
@@ -58,7 +59,7 @@ fn the_full_month_is_a_full_month() {
 #[test]
 fn the_ore_month_has_a_tie_and_three_missing_ore() {
     let bytes = ore().bytes();
-    let sums = settle(&bytes, Setting::Final).unwrap().party_sums();
+    let sums = settle(&bytes, Setting::FINAL).unwrap().party_sums();
     let amounts: Vec<i64> = sums.iter().map(|sums| sums.amount_millionths).collect();
     assert_eq!(amounts, [750_000, 500_000, -500_000, -1_250_000, 500_000]);
     let invoices: Vec<i64> = sums.iter().map(|sums| sums.invoice_ore).collect();
@@ -69,7 +70,7 @@ fn the_ore_month_has_a_tie_and_three_missing_ore() {
 #[test]
 fn the_brp_month_shows_when_the_whole_ore_are_made() {
     let bytes = examples::brp().bytes();
-    let sums = settle(&bytes, Setting::Final).unwrap().party_sums();
+    let sums = settle(&bytes, Setting::FINAL).unwrap().party_sums();
     let invoices: Vec<i64> = sums.iter().map(|sums| sums.invoice_ore).collect();
     assert_eq!(invoices, [1, 1, -2]);
     let text = brp(&bytes);
@@ -83,6 +84,50 @@ fn the_brp_month_shows_when_the_whole_ore_are_made() {
         let file = example(name).unwrap();
         assert_eq!(brp(&file) == statement(&file), name != "brp", "{name}");
     }
+}
+
+/// The figures of examples/README.md: quantities on day 1, which the prices of day 5 do not change, and amounts then.
+#[test]
+fn the_volumes_month_gets_its_prices_later() {
+    let (volumes, priced) = (examples::volumes(), examples::priced());
+    let expected_hours = "area 009 2017-02 hours 2 parties 2 estimated 0
+0 measured measured 8 9 2000000 9 5 4
+1 measured measured 4 6 1000000 6 4 2
+0000000000017 -1/4 1/4
+0000000000024 -1/4 1/4
+";
+    assert_eq!(Report::Hours.of(&volumes.bytes()), expected_hours);
+    assert_eq!(Report::Hours.of(&priced.bytes()), expected_hours);
+    let expected_statement = "area 009 2017-02 hours 2 parties 2 estimated 0
+0000000000017 11 8 0 -3 -2
+0000000000024 4 1 6 3 2
+total 15 9 6 0 0
+";
+    for report in [Report::Statement, Report::Preview, Report::Brp] {
+        assert_eq!(report.of(&volumes.bytes()), "refused 3 at 7\n");
+        assert_eq!(report.of(&priced.bytes()), expected_statement);
+    }
+    let file = volumes.bytes();
+    let first = settle(&file, Setting::FINAL.of_quantities()).unwrap();
+    let differences = first.hours.iter().flat_map(|hour| &hour.differences_wh);
+    let differences: Vec<i64> = differences.copied().collect();
+    assert_eq!(differences, [-2, 2, -1, 1]);
+    assert_eq!(
+        amounts(&differences, 2, &[500_000, 1_200_000], 4),
+        Ok(vec![-1_000_000, 1_000_000, -1_200_000, 1_200_000])
+    );
+}
+
+/// The two are one month: 05 records put in and the count raised is all.
+#[test]
+fn volumes_and_priced_differ_in_the_05_records_alone() {
+    let (volumes, priced) = (examples::volumes().records(), examples::priced().records());
+    assert!(priced[7..9].iter().all(|record| record[0] == 5));
+    assert_eq!(volumes[..7], priced[..7]);
+    assert_eq!(volumes[7..9], priced[9..11]);
+    assert_eq!(volumes[9], [7, 0, 0, 0, 9]);
+    assert_eq!(priced[11], [7, 0, 0, 0, 11]);
+    assert_eq!((volumes.len(), priced.len()), (10, 12));
 }
 
 #[test]

@@ -3,7 +3,7 @@
 
 mod common;
 
-use common::{assert_accepted, assert_refused, month_of};
+use common::{assert_accepted, assert_refused, assert_refused_for_amounts, month_of};
 use second::draft::measured_hour;
 use second::make::files;
 use second::month::settle;
@@ -12,7 +12,7 @@ use second::periodisation::periodised_wh;
 use second::record::{Reading, Record, Weights};
 use second::refusal::{Number, Refusal};
 use second::residual::curve;
-use second::setting::Setting;
+use second::setting::{Prices, Setting};
 use second::statement::statement;
 
 /// W 1, hours of 4 and 0 Wh, so curve numbers of 4,000,000 and 0, and these readings.
@@ -27,7 +27,7 @@ fn reading(a: u16, b: u16, e_wh: u32) -> Reading {
 
 /// All parties' periodised figures, hour by hour, of a month that is settled.
 fn periodised(file: &[u8]) -> Vec<i64> {
-    let month = settle(file, Setting::Final).unwrap();
+    let month = settle(file, Setting::FINAL).unwrap();
     let hours = month.hours.iter();
     hours.map(|hour| hour.periodised_wh.iter().sum()).collect()
 }
@@ -186,7 +186,7 @@ fn w3_an_08_before_the_last_price_is_3_and_one_cut_short_1() {
     for place in 0..8 {
         let mut early = records.clone();
         early.insert(place, part.clone());
-        assert_refused(&early.concat(), 3, place);
+        assert_refused_for_amounts(&early.concat(), 3, place);
     }
     let before: usize = records[..8].iter().map(Vec::len).sum();
     for length in 1..26 {
@@ -202,7 +202,7 @@ fn w3_an_08_before_the_last_price_is_3_and_one_cut_short_1() {
 fn a_04_is_the_08_of_its_own_weight() {
     let mut compared = 0;
     for made in files(71, 600) {
-        let Ok(month) = settle(&made.bytes, Setting::Provisional) else {
+        let Ok(month) = settle(&made.bytes, Setting::PROVISIONAL) else {
             continue;
         };
         for reading in &month.file.readings {
@@ -401,8 +401,8 @@ mod wrong {
 
 /// The readings and the curve of a file for which a final run comes as far as judging its readings.
 fn readings_and_curve(bytes: &[u8]) -> Option<(Vec<Reading>, Vec<u32>)> {
-    let file = month_file::read(bytes).ok()?;
-    let refused_before = match settle(bytes, Setting::Final) {
+    let file = month_file::read(bytes, Prices::Needed).ok()?;
+    let refused_before = match settle(bytes, Setting::FINAL) {
         Ok(_) => false,
         Err(refusal) => !matches!(
             refusal.number,
@@ -449,7 +449,7 @@ fn the_rules_here_judge_as_the_month_does() {
         let Some((readings, curve)) = readings_and_curve(&made.bytes) else {
             continue;
         };
-        let of_month = settle(&made.bytes, Setting::Final);
+        let of_month = settle(&made.bytes, Setting::FINAL);
         match by_the_rule(&readings, &curve) {
             Err(refusal) => {
                 assert_eq!(of_month.err(), Some(refusal), "{}", made.name);
@@ -478,7 +478,10 @@ fn an_08_of_a_file_is_read_as_it_was_written() {
     ];
     let draft = month_of(&[1], &[4, 1], &readings);
     let bytes = draft.bytes();
-    assert_eq!(month_file::read(&bytes).unwrap().readings, readings);
+    assert_eq!(
+        month_file::read(&bytes, Prices::Needed).unwrap().readings,
+        readings
+    );
     let records = draft.records();
     for (number, &reading) in readings.iter().enumerate() {
         assert_eq!(records[8 + number], Record::Reading(reading).encode());

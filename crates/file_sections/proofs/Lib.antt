@@ -1,3 +1,4 @@
 pub mod Walking
 pub mod AcceptedFile
 pub mod Unique
+pub mod Told

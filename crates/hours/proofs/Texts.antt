@@ -18,6 +18,7 @@ use Rattle.rules.specs.Month.{fileVerdict, monthOf}
 use Rattle.rules.specs.MonthFile.{MonthFile}
 use Rattle.rules.specs.Refusals.{Verdict, accepted, refused, wrongLength, unless, afterwards}
 use Rattle.rules.specs.Setting as Run
+use Rattle.rules.specs.Setting.{optional}
 use Rattle.rules.proofs.Refusals.{then-accepted, both-accept, given-tells, refusal-tells}
 use Rattle.setting.specs.Asked.{asked}
 use Rattle.setting.specs.declared.Setting.{Setting}
@@ -46,16 +47,16 @@ module _ (setting : Setting) (file first rest parties : List ℕ) {first′ rest
   m = monthOf file
 
   abbrev v : Verdict
-  v = reportVerdict (fileVerdict (asked setting) file) (length first) (length rest) (length parties)
+  v = reportVerdict (fileVerdict optional (asked setting) file) (length first) (length rest) (length parties)
 
   -- AN ACCEPTED MONTH: its parts stand there already
   module _ {a b c : ℕ} (e : reported ≡ Lines a b c) where
     tells : (v ≡ accepted) × (record { first = a; rest = b; parties = c } ≡ lengthsOf m)
     tells = given-tells v (lengthsOf m) (sym (ap told e) ∙ p .answer)
 
-    file-accepted : fileVerdict (asked setting) file ≡ accepted
+    file-accepted : fileVerdict optional (asked setting) file ≡ accepted
     unfolding reportVerdict
-    file-accepted = both-accept (fileVerdict (asked setting) file) (unless (rooms (length first) (length rest) (length parties)) wrongLength 0) (tells .0) .0
+    file-accepted = both-accept (fileVerdict optional (asked setting) file) (unless (rooms (length first) (length rest) (length parties)) wrongLength 0) (tells .0) .0
 
     part-stands : (text lent : List ℕ) {after : List ℕ} {n : ℕ} → after ≡ afterwards (verdict reported) (atStart text lent) lent → n ≡ length text → Stands n after text
     unfolding afterwards
@@ -81,11 +82,11 @@ module _ (setting : Setting) (file first rest parties : List ℕ) {first′ rest
 
   -- A REFUSED ONE, in buffers that have their rooms: so 16 does not arise, and its report is the refusal line
   module _ (room : Roomy (length first) (length rest) (length parties)) where
-    only-the-file : v ≡ fileVerdict (asked setting) file
+    only-the-file : v ≡ fileVerdict optional (asked setting) file
     unfolding reportVerdict rooms unless
     only-the-file =
         rw (le-leb firstRoom (length first) (room .first-room), le-leb restRoom (length rest) (room .rest-room), le-leb partiesRoom (length parties) (room .parties-room))
-        (then-accepted (fileVerdict (asked setting) file))
+        (then-accepted (fileVerdict optional (asked setting) file))
 
     pub refusal-printed : {r : Refusal} {place : ℕ} → reported ≡ Refused r place → refusalText (verdict reported) ≡ hoursReport (asked setting) file
     refusal-printed {r} {place} e =

@@ -16,7 +16,6 @@ use Rattle.month_run.specs.InRun.{distributedInRun}
 use Rattle.month_run.specs.Run.{inMonth, askedVerdict, runVerdict, Promised}
 use Rattle.month_run.proofs.OneHour.{in-run}
 use Rattle.month_run.proofs.Verdicts.{run-inside}
-use Rattle.file_sections.proofs.AcceptedFile.{month-of}
 use Rattle.setting.specs.Asked.{asked}
 use Rattle.setting.specs.declared.Setting.{Setting}
 use Rattle.rules.specs.Demands.{sumOver, sumSinceFirst, exactShare, distance, Demand3}
@@ -27,7 +26,7 @@ use Rattle.rules.specs.Month.{monthRead, monthOf, shareOf, monthW, appliedFlows
 use Rattle.rules.specs.MonthFile.{MonthFile, H, P, readMonth}
 use Rattle.rules.specs.Refusals.{outOfRange, Verdict, accepted, Answer as Told, given, refusal, unless, afterwards}
 use Rattle.rules.specs.Services.{atℤ}
-use Rattle.rules.specs.Setting.{provisional}
+use Rattle.rules.specs.Setting.{optional}
 use Rattle.rules.specs.Setting as R
 use Rattle.rules.specs.Words.{sum, sumℤ, figures}
 use Rattle.rules.proofs.Demand3.{demand-3}
@@ -35,7 +34,6 @@ use Rattle.rules.proofs.Integers.{sumℤ-cong}
 use Rattle.rules.proofs.Loops.{figures-length, figures-at}
 use Rattle.rules.proofs.Month.{Judged, accepted-is-judged, W-in-range, every-hour-has-its-figure}
 use Rattle.rules.proofs.Refusals.{refused-not-accepted, both-accept, unless-exactly}
-use Rattle.rules.proofs.Setting.{read-alike}
 use Rattle.rules.proofs.Whole.{what-is-read-is-whole}
 
 -- a number that is not negative is its size
@@ -112,7 +110,7 @@ in-limits : (n : ℕ) {z : ℤ} → z ≡ pos n → n ≤ greatestResidual → (
 in-limits n e b = rw e (record { le = le→leb 0 n (omega arith) }, record { le = le→leb n greatestResidual b })
 
 -- an accepted month has what demand 3 asks
-pub judged-is-asked : {file : List ℕ} {m : MonthFile} → readMonth provisional file ≡ given m → Judged m → DistributionAsked file m
+pub judged-is-asked : {file : List ℕ} {m : MonthFile} → readMonth optional file ≡ given m → Judged m → DistributionAsked file m
 judged-is-asked {file} {m} is judged =
     record {
       read = is;
@@ -132,18 +130,15 @@ module _ {setting : Setting} {file : List ℕ} {start hours : ℕ} {r : Answer} 
   abbrev m : MonthFile
   m = monthOf file
 
-  both : (fileVerdict (asked setting) file ≡ accepted) × (askedVerdict (H m) (P m) start hours (length d₀) (length p₀) (length x₀) (length l₀) ≡ accepted)
+  both : (fileVerdict optional (asked setting) file ≡ accepted) × (askedVerdict (H m) (P m) start hours (length d₀) (length p₀) (length x₀) (length l₀) ≡ accepted)
   unfolding runVerdict
-  both = both-accept (fileVerdict (asked setting) file) _ (sym (is .answer) ∙ ok)
+  both = both-accept (fileVerdict optional (asked setting) file) _ (sym (is .answer) ∙ ok)
 
-  month : (readMonth provisional file ≡ given m) × (monthVerdict (asked setting) m ≡ accepted)
-  unfolding fileVerdict
-  month =
-      let read = read-accepted (asked setting) (readMonth (asked setting) file) (both .0) in
-      let same : m ≡ monthRead (readMonth (asked setting) file) = month-of (asked setting) file (read .0) in
-      (read-alike provisional (asked setting) file ∙ read .0 ∙ ap given (sym same), ap (monthVerdict (asked setting)) same ∙ read .1)
+  pub month : (readMonth optional file ≡ given m) × (monthVerdict (asked setting) m ≡ accepted)
+  unfolding fileVerdict monthOf
+  month = read-accepted (asked setting) (readMonth optional file) (both .0)
 
-  run-in-month : (1 ≤ hours) × (start + hours ≤ H m)
+  pub run-in-month : (1 ≤ hours) × (start + hours ≤ H m)
   unfolding askedVerdict
   run-in-month =
       let first = both-accept (unless (inMonth (H m) start hours) outOfRange 0) _ (both .1) .0 in
@@ -163,5 +158,5 @@ module _ {setting : Setting} {file : List ℕ} {start hours : ℕ} {r : Answer} 
   -- DEMAND 3 OF WHAT A CALLER GETS HOUR BY HOUR
   pub the-hours-meet : RunMeets file (monthOf file) start hours d
   the-hours-meet =
-      the-run-meets (judged-is-asked (month .0) (accepted-is-judged (asked setting) m (what-is-read-is-whole provisional file (month .0)) (month .1)))
+      the-run-meets (judged-is-asked (month .0) (accepted-is-judged (asked setting) m (what-is-read-is-whole optional file (month .0)) (month .1)))
       start hours (run-in-month .1) d as-written (run-in-month .0) (ap length holds ∙ figures-length (hours * P m) (distributedInRun m start))

@@ -1,3 +1,4 @@
 pub mod Theorems
 pub mod Unique
 pub mod Distribution
+pub mod SecondAfterFirst

@@ -24,7 +24,7 @@ use Rattle.rules.specs.MonthFile.{MonthFile, H, P, readMonth}
 use Rattle.rules.specs.Reconciliation.{lossOf}
 use Rattle.rules.specs.Refusals.{Refusal, wrongLength, Verdict, accepted, refused, Answer, given, refusal, unless, andThen, first, answer, afterwards, verdictTold}
 use Rattle.rules.specs.Services.{atℤ}
-use Rattle.rules.specs.Setting.{final, provisional}
+use Rattle.rules.specs.Setting.{final, needed, optional}
 use Rattle.rules.specs.Setting as R
 use Rattle.rules.specs.Statement.{columnsLine, totalLine}
 use Rattle.rules.specs.WellFormed.{Bytes}
@@ -42,7 +42,7 @@ use Rattle.rules.proofs.Refusals.{refused-not-accepted, accepted-exactly, refus
 use Rattle.rules.proofs.Setting.{read-alike, final-is-refixed}
 use Rattle.rules.proofs.Sums.{sum-cong, sum-swap}
 use Rattle.rules.proofs.WellFormed.{read-exactly}
-use Rattle.rules.proofs.Whole.{Whole, what-is-read-is-whole}
+use Rattle.rules.proofs.Whole.{Whole, what-is-read-is-whole, what-is-read-is-priced}
 
 -- The verdict can be read back from what an answer tells.
 as-told : (r : Settlement) → verdictTold (told r) ≡ verdict r
@@ -62,20 +62,24 @@ module _ (setting : Setting) (file : List ℕ) (lent : Outputs) where
 
   the-call :
       settleVerdict setting file (length (lent .distributed)) (length (lent .periodised)) (length (lent .losses)) (length (lent .differences)) (length (lent .amounts))
-      ≡ verdictFor (readMonth (asked setting) file)
+      ≡ verdictFor (readMonth needed file)
   unfolding settleVerdict callVerdict fileVerdict monthOf
-  the-call =
-      ap (λ (read : Answer MonthFile). andThen (verdictOn (asked setting) (readMonth (asked setting) file)) (last (monthRead read)))
-      (read-alike provisional (asked setting) file)
+  the-call = go (readMonth needed file) refl
+    where
+      -- a file that is read is read as its month; of one that is not, no length is asked
+      go : (read : Answer MonthFile) → readMonth needed file ≡ read → andThen (verdictOn (asked setting) read) (last (monthRead (readMonth optional file))) ≡ verdictFor read
+      unfolding verdictOn andThen
+      go (given m) is = ap (λ (a : Answer MonthFile). andThen (monthVerdict (asked setting) m) (last (monthRead a))) (read-alike needed file is)
+      go (refusal r place) is = refl
 
   -- what an accepted call says of the file, whatever its members
   record ReadAndRight : Type 0 where
     month : MonthFile
-    read : readMonth (asked setting) file ≡ given month
+    read : readMonth needed file ≡ given month
     no-check-refuses : NoneRefuses (monthChecks (asked setting) month)
     lent-right : right month ≡ true
 
-  read-and-right : (read : Answer MonthFile) → readMonth (asked setting) file ≡ read → verdictFor read ≡ accepted → ReadAndRight
+  read-and-right : (read : Answer MonthFile) → readMonth needed file ≡ read → verdictFor read ≡ accepted → ReadAndRight
   unfolding verdictOn monthVerdict monthRead andThen
   read-and-right (given m) is e =
       let both = both-accept (first (monthChecks (asked setting) m)) (last m) e in
@@ -84,18 +88,18 @@ module _ (setting : Setting) (file : List ℕ) (lent : Outputs) where
 
   -- A file of bytes is read as a month exactly when it is the file of that month, well formed.
   module _ (small : Bytes file) where
-    its-file : (m : MonthFile) → readMonth (asked setting) file ≡ given m → FileOf file m
-    its-file m is = let h = read-exactly (asked setting) file m small .0 is in record { well-formed = h .0; its-bytes = h .1 }
+    its-file : (m : MonthFile) → readMonth needed file ≡ given m → FileOf file m
+    its-file m is = let h = read-exactly needed file m small .0 is in record { well-formed = h .0; its-bytes = h .1 }
 
-    is-read : {m : MonthFile} → FileOf file m → readMonth (asked setting) file ≡ given m
-    is-read {m} h = read-exactly (asked setting) file m small .1 (h .well-formed, h .its-bytes)
+    is-read : {m : MonthFile} → FileOf file m → readMonth needed file ≡ given m
+    is-read {m} h = read-exactly needed file m small .1 (h .well-formed, h .its-bytes)
 
     -- accepted, then no refusal applies
     none-applies : ReadAndRight → NoRefusalApplies setting file lent
     none-applies h = record { month = h .month; is-its-file = its-file (h .month) (h .read); no-check-refuses = h .no-check-refuses; lent-right = h .lent-right }
 
     -- and the other way
-    then-accepts : NoRefusalApplies setting file lent → verdictFor (readMonth (asked setting) file) ≡ accepted
+    then-accepts : NoRefusalApplies setting file lent → verdictFor (readMonth needed file) ≡ accepted
     unfolding verdictOn monthVerdict monthRead andThen
     then-accepts h =
         ap verdictFor (is-read (h .is-its-file))
@@ -129,17 +133,17 @@ module _ (setting : Setting) (file : List ℕ) (lent : Outputs) where
       by-the-month m is (refused s q) f e =
           of-the-month (record { month = m; is-its-file = is; first-refuses = refused-exactly (monthChecks (asked setting) m) r place .0 (f ∙ e) })
 
-      it-applies : (read : Answer MonthFile) → readMonth (asked setting) file ≡ read → verdictFor read ≡ refused r place → RefusalApplies setting file lent r place
+      it-applies : (read : Answer MonthFile) → readMonth needed file ≡ read → verdictFor read ≡ refused r place → RefusalApplies setting file lent r place
       unfolding verdictOn monthVerdict monthRead andThen
       it-applies (given m) is e = by-the-month m (its-file m is) (first (monthChecks (asked setting) m)) refl e
       it-applies (refusal s q) is e =
           let same : _≡_ {A = Answer MonthFile} (refusal s q) (refusal r place) = cc in
-          of-reading (reading-refused-exactly (asked setting) file r place small .0 (is ∙ same))
+          of-reading (reading-refused-exactly needed file r place small .0 (is ∙ same))
 
       -- and the other way
-      then-refuses : RefusalApplies setting file lent r place → verdictFor (readMonth (asked setting) file) ≡ refused r place
+      then-refuses : RefusalApplies setting file lent r place → verdictFor (readMonth needed file) ≡ refused r place
       unfolding verdictOn monthVerdict monthRead andThen unless
-      then-refuses (of-reading h) = ap verdictFor (reading-refused-exactly (asked setting) file r place small .1 h)
+      then-refuses (of-reading h) = ap verdictFor (reading-refused-exactly needed file r place small .1 h)
       then-refuses (of-the-month h) =
           ap verdictFor (is-read (h .is-its-file))
           ∙ ap (λ (u : Verdict). andThen u (last (h .month))) (refused-exactly (monthChecks (asked setting) (h .month)) r place .1 (h .first-refuses))
@@ -199,7 +203,7 @@ since-first m i =
 
 -- THE CALL ON A WHOLE FILE: of any answer r, and any contents of the lent outputs, that meet its promise.
 module _ {setting : Setting} {file : List ℕ} {r : Settlement} (lent held : Outputs) (is : Kept setting file r lent held) where
-  its-verdict : verdict r ≡ verdictFor setting file lent (readMonth (asked setting) file)
+  its-verdict : verdict r ≡ verdictFor setting file lent (readMonth needed file)
   its-verdict =
       sym (as-told r) ∙ ap (λ (a : Answer Summary). verdictTold a) (is .answer) ∙ verdict-back _ (summaryOf (monthOf file))
       ∙ the-call setting file lent
@@ -207,14 +211,14 @@ module _ {setting : Setting} {file : List ℕ} {r : Settlement} (lent held : Out
   -- "A month is accepted exactly when no refusal there applies." A slice of bytes has members below 256, which is all that is asked.
   pub accepted-exactly-when : Bytes file → (verdict r ≡ accepted) ↔ NoRefusalApplies setting file lent
   accepted-exactly-when small = (
-    λ e. none-applies setting file lent small (read-and-right setting file lent (readMonth (asked setting) file) refl (sym its-verdict ∙ e)),
+    λ e. none-applies setting file lent small (read-and-right setting file lent (readMonth needed file) refl (sym its-verdict ∙ e)),
     λ h. its-verdict ∙ then-accepts setting file lent small h,
   )
 
   -- "A refusal returns its number and a place": exactly when it is the one that applies
   pub refused-exactly-when : Bytes file → (why : Refusal) (place : ℕ) → (verdict r ≡ refused why place) ↔ RefusalApplies setting file lent why place
   refused-exactly-when small why place = (
-    λ e. it-applies setting file lent small why place (readMonth (asked setting) file) refl (sym its-verdict ∙ e),
+    λ e. it-applies setting file lent small why place (readMonth needed file) refl (sym its-verdict ∙ e),
     λ h. its-verdict ∙ then-refuses setting file lent small why place h,
   )
 
@@ -223,12 +227,12 @@ module _ {setting : Setting} {file : List ℕ} {r : Settlement} (lent held : Out
     m = monthOf file
 
     none : ReadAndRight setting file lent
-    none = read-and-right setting file lent (readMonth (asked setting) file) refl (sym its-verdict ∙ ok)
+    none = read-and-right setting file lent (readMonth needed file) refl (sym its-verdict ∙ ok)
 
     its-month : m ≡ none .month
-    its-month = month-of (asked setting) file (none .read)
+    its-month = month-of needed file (none .read)
 
-    read-as : readMonth (asked setting) file ≡ given m
+    read-as : readMonth needed file ≡ given m
     read-as = none .read ∙ ap given (sym its-month)
 
     its-checks : monthVerdict (asked setting) m ≡ accepted
@@ -236,7 +240,7 @@ module _ {setting : Setting} {file : List ℕ} {r : Settlement} (lent held : Out
     its-checks = ap (monthVerdict (asked setting)) its-month ∙ accepted-exactly (monthChecks (asked setting) (none .month)) .1 (none .no-check-refuses)
 
     whole : Whole m
-    whole = what-is-read-is-whole (asked setting) file read-as
+    whole = what-is-read-is-whole needed file read-as
 
     judged : Judged m
     judged = accepted-is-judged (asked setting) m whole its-checks
@@ -268,6 +272,7 @@ module _ {setting : Setting} {file : List ℕ} {r : Settlement} (lent held : Out
     the-month-meets =
         record {
           read = read-as;
+          all-priced = what-is-read-is-priced needed file read-as;
           refixed-or-provisional = refixed;
           distributed-size = as-many (P m) (monthDistributed m) holds-distributed;
           periodised-size = as-many (P m) (monthPeriodised m) holds-periodised;

@@ -23,7 +23,7 @@ use Rattle.rules.specs.Reconciliation.{lossOf}
 use Rattle.rules.specs.ReadingRefused.{ReadingRefuses}
 use Rattle.rules.specs.Refusals.{Refusal, wrongLength, given}
 use Rattle.rules.specs.Services.{atℤ}
-use Rattle.rules.specs.Setting.{final}
+use Rattle.rules.specs.Setting.{final, needed}
 use Rattle.rules.specs.Statement.{columnsLine, totalLine}
 use Rattle.rules.specs.WellFormed.{WellFormed, fileOf}
 use Rattle.rules.specs.Words.{sum, sumℤ, at, ascii}
@@ -48,9 +48,9 @@ placesRight parties lent =
     lentRight parties (length (lent .distributed)) (length (lent .periodised)) (length (lent .losses))
     (length (lent .differences)) (length (lent .amounts))
 
--- the file's bytes are those of a month that is well formed
+-- the file's bytes are those of a month that is well formed and has its prices: the call gives amounts
 pub record FileOf (file : List ℕ) (month : MonthFile) : Type 0 where
-  pub well-formed : WellFormed month
+  pub well-formed : WellFormed needed month
   pub its-bytes : file ≡ fileOf month
 
 -- "A month is accepted exactly when no refusal there applies.": the file is that of a well-formed month, no check of the month refuses under the setting
@@ -79,13 +79,15 @@ pub record LentWrong (setting : Setting) (file : List ℕ) (lent : Outputs) (r :
 
 -- the refusal that applies, with its place: one of reading, else one of the month, else 16
 pub data RefusalApplies (setting : Setting) (file : List ℕ) (lent : Outputs) (r : Refusal) (place : ℕ) : Type 0 where
-  of-reading : ReadingRefuses (asked setting) file r place → RefusalApplies setting file lent r place
+  of-reading : ReadingRefuses needed file r place → RefusalApplies setting file lent r place
   of-the-month : MonthRefuses setting file r place → RefusalApplies setting file lent r place
   of-the-lent : LentWrong setting file lent r place → RefusalApplies setting file lent r place
 
 -- WHAT HOLDS OF AN ACCEPTED MONTH: m is the month that the file is read as; `held` is what the lent outputs hold once the call has answered
 pub record MonthMeets (setting : Setting) (file : List ℕ) (m : MonthFile) (held : Outputs) : Type 0 where
-  pub read : readMonth (asked setting) file ≡ given m
+  pub read : readMonth needed file ≡ given m
+  -- W6: "the statement program goes on refusing such a file with 3": there is a price for each hour
+  pub all-priced : length (m .prices) ≡ H m
   -- W1: "A file with no 06 records shall be refused unless the caller says that the month is provisional.": in a final run there is a refixed hour for each hour
   pub refixed-or-provisional : asked setting ≡ final → length (m .refixed) ≡ H m
   -- "one line per party in order": a figure for each party in every lent output, and nothing more

@@ -15,13 +15,13 @@ use Rattle.rules.specs.Month.{shareOf, monthW, appliedFlows, appliedWh, distrib
 use Rattle.rules.specs.MonthFile.{MonthFile, H, P, readMonth}
 use Rattle.rules.specs.Refusals.{given}
 use Rattle.rules.specs.Services.{atℤ}
-use Rattle.rules.specs.Setting.{provisional}
+use Rattle.rules.specs.Setting.{optional}
 use Rattle.rules.specs.Words.{sum, sumℤ}
 
 -- WHAT DEMAND 3 ASKS OF A FILE, and no more: a month whose fixed series is refused, or its curve, or its readings, has it too
 pub record DistributionAsked (file : List ℕ) (m : MonthFile) : Type 0 where
-  -- m is the month that the file is read as: under the provisional setting, since demand 3 asks for no refixed series, and a file is read alike under both
-  pub read : readMonth provisional file ≡ given m
+  -- m is the month that the file is read as: without its prices needed, since demand 3 asks for none, and a file that has them is read alike
+  pub read : readMonth optional file ≡ given m
   -- "For a month whose load shares are accepted ..": "W 1..4,000,000,000"
   pub shares-accepted : (1 ≤ monthW m) × (monthW m ≤ greatestW)
   -- ".. and whose applied residuals all lie within the limits": "Residual 0..2,000,000,000", of the flows' own sum, which can have either sign

@@ -19,6 +19,7 @@ use Rattle.report_figures.specs.Hourly.{HourlyMade, HourlyIs}
 use Rattle.report_figures.specs.declared.Hourly.{Hourly}
 use Rattle.residual.specs.Applied.{appliedOf}
 use Rattle.rules.specs.Month.{monthOf, estimatedHours, verdictOn, fileVerdict}
+use Rattle.rules.specs.Setting.{optional}
 use Rattle.setting.specs.Asked.{asked}
 use Rattle.setting.specs.declared.Setting.{Setting}
 
@@ -32,7 +33,7 @@ module _ (file : List ℕ) (s : Sections) (ok : Accepted file s) {made : Hourly}
       → Promised setting file first rest parties r first′ rest′ parties′
   unfolding fileVerdict verdictOn
   by-the-file setting is {first} {rest} {parties} answered =
-      answered-as (monthOf file) first rest parties (is .verdict ∙ sym (ap (verdictOn (asked setting)) (read-as file s ok (asked setting)))) answered
+      answered-as (monthOf file) first rest parties (is .verdict ∙ sym (ap (verdictOn (asked setting)) (read-as optional file s ok))) answered
 
   -- no check refused it
   module _ (numbers : NumbersOf (monthOf file) made fixed refixed curveNumbers distributed periodised) (done : made .answer ≡ Done) where

@@ -23,7 +23,7 @@ use Rattle.rules.specs.Limits.{longestFile}
 use Rattle.rules.specs.Month.{monthOf, verdictOn, fileVerdict}
 use Rattle.rules.specs.MonthFile.{MonthFile, readMonth}
 use Rattle.rules.specs.Refusals as R
-use Rattle.rules.specs.Setting.{Setting}
+use Rattle.rules.specs.Setting.{Setting, optional}
 use Rattle.rules.specs.Statement.{refusalLine}
 use Rattle.rules.proofs.Whole.{both-pass}
 use Rattle.text.specs.Text.{LinePut, atStart}
@@ -103,25 +103,25 @@ module _ (m : MonthFile) where
 
 module _ (setting : Setting) (file : List ℕ) where
   -- THE REPORT OF A FILE is its parts
-  pub report-text : fileVerdict setting file ≡ R.accepted → hoursReport setting file ≡ firstPart (monthOf file) ++ restPart (monthOf file) ++ partiesPart (monthOf file)
+  pub report-text : fileVerdict optional setting file ≡ R.accepted → hoursReport setting file ≡ firstPart (monthOf file) ++ restPart (monthOf file) ++ partiesPart (monthOf file)
   unfolding fileVerdict verdictOn hoursReport answeredReport judgedReport
-  report-text e = go (readMonth setting file) refl e
+  report-text e = go (readMonth optional file) refl e
     where
       go :
           (a : R.Answer MonthFile)
-          → readMonth setting file ≡ a
+          → readMonth optional file ≡ a
           → verdictOn setting a ≡ R.accepted
           → answeredReport setting a ≡ firstPart (monthOf file) ++ restPart (monthOf file) ++ partiesPart (monthOf file)
       go (R.given n) is f =
           ap (judgedReport n) f
           ∙ sym (parts-make-the-report n)
-          ∙ ap (λ (k : MonthFile). firstPart k ++ restPart k ++ partiesPart k) (sym (month-of setting file is))
+          ∙ ap (λ (k : MonthFile). firstPart k ++ restPart k ++ partiesPart k) (sym (month-of optional file is))
       go (R.refusal x q) is f = cc
 
   -- or its refusal line
-  pub refusal-text : {r : R.Refusal} {place : ℕ} → fileVerdict setting file ≡ R.refused r place → hoursReport setting file ≡ refusalLine r place
+  pub refusal-text : {r : R.Refusal} {place : ℕ} → fileVerdict optional setting file ≡ R.refused r place → hoursReport setting file ≡ refusalLine r place
   unfolding fileVerdict verdictOn hoursReport answeredReport judgedReport
-  refusal-text {r} {place} e = go (readMonth setting file) e
+  refusal-text {r} {place} e = go (readMonth optional file) e
     where
       go : (a : R.Answer MonthFile) → verdictOn setting a ≡ R.refused r place → answeredReport setting a ≡ refusalLine r place
       go (R.given m) f = ap (judgedReport m) f
@@ -130,4 +130,4 @@ module _ (setting : Setting) (file : List ℕ) where
   -- "An empty or too long file is refused before all else, place 0": the same line for every file that long
   pub too-long-line : longestFile < length file → hoursReport setting file ≡ refusalLine R.fileFault 0
   unfolding hoursReport answeredReport
-  too-long-line long = ap (answeredReport setting) (sym (too-long setting file (omega arith) long))
+  too-long-line long = ap (answeredReport setting) (sym (too-long optional file (omega arith) long))

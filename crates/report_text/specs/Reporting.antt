@@ -12,6 +12,7 @@ use Rattle.report_text.specs.declared.Reported.the-variants.{Lines, Refu
 use Rattle.rules.specs.Month.{monthOf, fileVerdict}
 use Rattle.rules.specs.MonthFile.{MonthFile}
 use Rattle.rules.specs.Refusals as R
+use Rattle.rules.specs.Setting.{optional}
 use Rattle.setting.specs.Asked.{asked}
 use Rattle.setting.specs.declared.Setting.{Setting}
 use Rattle.text.specs.Text.{atStart}
@@ -51,4 +52,4 @@ pub record Answered (ofFile : R.Verdict) (m : MonthFile) (first rest parties : L
 
 -- THE PROMISE: that of the file's month, by the file's verdict under the setting
 abbrev pub Promised : Setting → List ℕ → List ℕ → List ℕ → List ℕ → Reported → List ℕ → List ℕ → List ℕ → Type 0
-Promised setting file = Answered (fileVerdict (asked setting) file) (monthOf file)
+Promised setting file = Answered (fileVerdict optional (asked setting) file) (monthOf file)

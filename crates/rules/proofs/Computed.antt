@@ -1,4 +1,5 @@
--- What the worked cases compute with, document by document. To unfold one of these names is to unfold all that its line names, and no more is meant by it.
+-- What the worked cases compute with (proofs/SmallMonth, and the crate `worked_cases`), document by document; proofs/PricesLater unfolds some of it. To unfold one of
+-- these names is to unfold all that its line names, and no more is meant by it.
 use Rattle.rules.specs.Brp.{brpOf, inItsPlace, differentOnes, brps, suppliesFor, suppliersOf, onlyOf, onlyOfℤ, sumOfBrp, sumOfBrpℤ, brpDistributed}
 use Rattle.rules.specs.Brp.{brpPeriodised, brpLoss, brpDifference, brpMonthDistributed, brpMonthPeriodised, brpMonthLoss, brpMonthDifference, brpInvoice, brpShare}
 use Rattle.rules.specs.Words.{sum, sumℤ, sumFrom1, count, figures, at, within, atMost, withinℤ, joined, ascii}

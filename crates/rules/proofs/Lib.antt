@@ -22,13 +22,14 @@ pub mod Brp
 pub mod BrpDemands
 pub mod GlnNumber
 pub mod OwnBrps
-mod Computed
-pub mod WorkedCases
-pub mod WorkedMonths
-pub mod WorkedServices
+pub mod Computed
+pub mod SmallMonth
 pub mod Places
 pub mod RoundTrip
 pub mod ReadThrough
 pub mod MonthRecords
 pub mod WellFormed
 pub mod ReadingRefused
+pub mod PricesLater
+pub mod Run
+pub mod AmountsLater

@@ -1,5 +1,5 @@
 -- THE RECORDS OF A MONTH (`recordsOf` of specs/WellFormed) AND THOSE THAT PASS: records that pass from the start are the records of the month that they add up
--- to (`records-are`), and the records of a whole month pass and add up to it (`whole-month-passes`).
+-- to (`records-are`), and the records of a whole month pass and add up to it (`whole-month-passes`); those before the prices pass by themselves.
 use mathlib.Core.Bool.{Bool, true, false, _&&_, _||_}
 use mathlib.Core.List.{List, [], _∷_, _++_, append-assoc, append-nil}
 use mathlib.Core.Logic.{_⊎_, ⊎-elim}
@@ -36,7 +36,7 @@ numbered-more make n (y ∷ l) x =
 next-numbered : {A : Type 0} (make : ℕ → A → Record) (l : List A) (x : A) {k : ℕ} → k ≡ length l → numbered make 0 (l ++ (x ∷ [])) ≡ numbered make 0 l ++ (make k x ∷ [])
 next-numbered make l x e = numbered-more make 0 l x ∙ ap (λ (j : ℕ). numbered make 0 l ++ (make j x ∷ [])) (omega arith)
 
-none-numbered : {A : Type 0} (make : ℕ → A → Record) (l : List A) → length l ≡ 0 → numbered make 0 l ≡ []
+pub none-numbered : {A : Type 0} (make : ℕ → A → Record) (l : List A) → length l ≡ 0 → numbered make 0 l ≡ []
 unfolding numbered
 none-numbered make [] e = refl
 none-numbered make (x ∷ l) e = absurd (omega arith)
@@ -51,7 +51,7 @@ later-on : (a rest more : List Record) (r : Record) → more ≡ rest ++ (r ∷ 
 later-on a rest more r e = ap (λ (t : List Record). a ++ t) e ∙ sym (append-assoc a rest (r ∷ []))
 
 module _ (m : MonthFile) where
-  abbrev the-readings : List Record
+  abbrev pub the-readings : List Record
   the-readings = numbered asReading 0 (m .readings)
 
   abbrev from-prices : List Record
@@ -62,6 +62,10 @@ module _ (m : MonthFile) where
 
   abbrev from-fixed : List Record
   from-fixed = numbered fixedHour 0 (m .fixed) ++ from-refixed
+
+  -- all that stands before the prices
+  abbrev pub to-the-hours : List Record
+  to-the-hours = heading (m .heading) ∷ (numbered asParty 0 (m .parties) ++ (numbered fixedHour 0 (m .fixed) ++ numbered refixedHour 0 (m .refixed)))
 
   no-reading : length (m .readings) ≡ 0 → the-readings ≡ []
   no-reading = none-numbered asReading (m .readings)
@@ -343,8 +347,28 @@ module _ (asked : Prices) (m : MonthFile) (w : Whole m) (held : Every ReadingHel
   unfolding H
   hours-there = le-leb 1 (H m) (heading-facts (m .heading) (w .head) .hours .0)
 
+  -- the heading, the parties and the hours, and what has been read of the month after them
+  parties-through : Through asked (to-parties []) (numbered asParty 0 (m .parties)) (to-fixed [])
+  unfolding with
+  parties-through = section asked asParty to-parties (m .parties) (λ done n x. refl) party-passes (m .parties) [] refl
+
+  fixed-through : Through asked (to-fixed []) (numbered fixedHour 0 (m .fixed)) (to-refixed [])
+  unfolding with
+  fixed-through = section asked fixedHour to-fixed (m .fixed) (λ done n x. refl) fixed-passes (m .fixed) [] refl
+
+  refixed-through : Through asked (to-refixed []) (numbered refixedHour 0 (m .refixed)) (to-prices [])
+  unfolding with
+  refixed-through = section asked refixedHour to-refixed (m .refixed) (λ done n x. refl) refixed-passes (m .refixed) [] refl
+
+  headed : {records : List Record} {to : MonthFile} → Through asked (to-parties []) records to → Through asked nothingYet (heading (m .heading) ∷ records) to
+  unfolding withAll with nothingYet
+  headed t = record { pass = λ n. (heading-passes n, t .pass (suc n)); gives = t .gives }
+
+  pub hours-through : Through asked nothingYet (to-the-hours m) (to-prices [])
+  hours-through = headed (then-through parties-through (then-through fixed-through refixed-through))
+
   module _ (priced : Priced asked m) where
-    reading-passes : (done : List Reading) (x : Reading) (later : List Reading) → m .readings ≡ done ++ (x ∷ later) → (n : ℕ) → Passes asked (to-readings done) n (reading x)
+    pub reading-passes : (done : List Reading) (x : Reading) (later : List Reading) → m .readings ≡ done ++ (x ∷ later) → (n : ℕ) → Passes asked (to-readings done) n (reading x)
     unfolding isEnd due hoursThere pricesThere allPriced pricedFor H P checks first andThen unless
     reading-passes done x later e n =
         let right : ReadingRight (H m) (P m) x = there (ReadingRight (H m) (P m)) done x later (subst (Every (ReadingRight (H m) (P m))) e (w .readings)) in
@@ -363,12 +387,12 @@ module _ (asked : Prices) (m : MonthFile) (w : Whole m) (held : Every ReadingHel
     sections : Through asked (to-parties []) (numbered asParty 0 (m .parties) ++ from-fixed m) m
     unfolding with
     sections =
-        then-through (section asked asParty to-parties (m .parties) (λ done n x. refl) party-passes (m .parties) [] refl)
-        (then-through (section asked fixedHour to-fixed (m .fixed) (λ done n x. refl) fixed-passes (m .fixed) [] refl)
-        (then-through (section asked refixedHour to-refixed (m .refixed) (λ done n x. refl) refixed-passes (m .refixed) [] refl)
+        then-through parties-through
+        (then-through fixed-through
+        (then-through refixed-through
         (then-through (section asked price to-prices (m .prices) (λ done n x. refl) price-passes (m .prices) [] refl)
         (section asked asReading to-readings (m .readings) (λ done n x. refl) reading-passes (m .readings) [] refl))))
 
     pub whole-month-passes : Through asked nothingYet (recordsOf m) m
-    unfolding recordsOf withAll with nothingYet
-    whole-month-passes = record { pass = λ n. (heading-passes n, sections .pass (suc n)); gives = sections .gives }
+    unfolding recordsOf
+    whole-month-passes = headed sections

@@ -48,7 +48,7 @@ module _ (m : MonthFile) (s : Sound m) where
       let inner = both-pass (ltb hour (H m)) (flowsInRange f) (outer .0) in
       rw (lt-ltb hour mostHours (omega (arith, few-hours, ltb-true hour (H m) (inner .0))), inner .1, outer .1)
 
-  alone-too : (n : ℕ) (r : Record) → NoneRefuses (checks (inFile m n) r) → NoneRefuses (checks alone r)
+  pub alone-too : (n : ℕ) (r : Record) → NoneRefuses (checks (inFile m n) r) → NoneRefuses (checks alone r)
   unfolding checks first andThen unless
   alone-too n (heading h) c = accepted-exactly (checks alone (heading h)) .0 (rw (unless-exactly (headingInRange h) _ _ .0 (c .0)))
   alone-too n (party p) c =
@@ -97,6 +97,19 @@ went-through : (v : Verdict) (rest : Answer MonthFile) → v ≡ accepted → on
 unfolding onward
 went-through v rest e = rw e
 
+-- what a reading sees where the bytes of a record without fault stand first: a known kind, all of the body, and that record
+pub record Seen (r : Record) (bytes : List ℕ) : Type 0 where
+  pub known-kind : known (kindAt bytes) ≡ true
+  pub all-there : leb (1 + bodyLength (kindAt bytes)) (length bytes) ≡ true
+  pub is : recordAt bytes ≡ r
+
+pub seen : (r : Record) → NoneRefuses (checks alone r) → Held r → (rest : List ℕ) → Seen r (recordBytes r ++ rest)
+seen r none held rest =
+    let size : length (recordBytes r) ≡ 1 + bodyLength (kindOf r) = record-length r (accepted-exactly (checks alone r) .1 none) in
+    let fits : leb (1 + bodyLength (kindOf r)) (length (recordBytes r ++ rest)) ≡ true =
+    le-leb (1 + bodyLength (kindOf r)) (length (recordBytes r ++ rest)) (omega (arith, size, length-append (recordBytes r) rest)) in
+    record { known-kind = rw (kind-back r rest) (kind-known r); all-there = rw (kind-back r rest) fits; is = record-back r rest held none }
+
 -- a record without fault, and all that follows it
 one-record : (prices : Prices) (m : MonthFile) → Sound m → (n : ℕ) (r : Record) → due m r ≡ true → pricedFor prices m r ≡ true
     → NoneRefuses (checks (inFile m n) r)
@@ -108,22 +121,18 @@ one-record prices m s n r d p c held rest =
     let body : List ℕ = joined (inWidths (fieldWidths (kindOf r)) (fieldsOf r)) in
     let none : NoneRefuses (checks alone r) = alone-too m s n r c in
     let size : length (recordBytes r) ≡ 1 + bodyLength (kindOf r) = record-length r (accepted-exactly (checks alone r) .1 none) in
-    let is : recordAt (recordBytes r ++ rest) ≡ r = record-back r rest held none in
-    let fits : leb (1 + bodyLength (kindOf r)) (length (recordBytes r ++ rest)) ≡ true =
-    le-leb (1 + bodyLength (kindOf r)) (length (recordBytes r ++ rest)) (omega (arith, size, length-append (recordBytes r) rest)) in
-    let known-kind : known (kindAt (recordBytes r ++ rest)) ≡ true = rw (kind-back r rest) (kind-known r) in
-    let all-there : leb (1 + bodyLength (kindAt (recordBytes r ++ rest))) (length (recordBytes r ++ rest)) ≡ true = rw (kind-back r rest) fits in
+    let here : Seen r (recordBytes r ++ rest) = seen r none held rest in
     let passes : NoneRefuses (recordChecks prices m n (recordBytes r ++ rest)) = (
-      unless-exactly _ _ _ .1 known-kind,
-      (unless-exactly _ _ _ .1 all-there, (unless-exactly _ _ _ .1 (rw is d), (unless-exactly _ _ _ .1 (rw is p), rw is c))),
+      unless-exactly _ _ _ .1 (here .known-kind),
+      (unless-exactly _ _ _ .1 (here .all-there), (unless-exactly _ _ _ .1 (rw (here .is) d), (unless-exactly _ _ _ .1 (rw (here .is) p), rw (here .is) c))),
     ) in
     from-a-record prices (kindOf r) (body ++ rest) n m
     ∙ went-through _ _ (accepted-exactly (recordChecks prices m n (recordBytes r ++ rest)) .1 passes)
-    ∙ ap₂ (λ (x : Record) (left : List ℕ). onFrom prices x left n m) is (drop-at body rest (bodyLength (kindOf r)) (omega arith))
+    ∙ ap₂ (λ (x : Record) (left : List ℕ). onFrom prices x left n m) (here .is) (drop-at body rest (bodyLength (kindOf r)) (omega arith))
 
 -- RECORDS THAT PASS
 
-sound-after : (prices : Prices) (records : List Record) (m : MonthFile) → Sound m → (n : ℕ) → AllPass prices m n records → Sound (withAll m records)
+pub sound-after : (prices : Prices) (records : List Record) (m : MonthFile) → Sound m → (n : ℕ) → AllPass prices m n records → Sound (withAll m records)
 unfolding withAll
 sound-after prices [] m s n all = s
 sound-after prices (r ∷ records) m s n all = sound-after prices records (with m r) (step m s n r (all .0 .is-due) (all .0 .none-refuses)) (suc n) (all .1)
@@ -143,7 +152,7 @@ reads-through prices (r ∷ records) rest m s n all =
     ∙ ap (λ (k : ℕ). readFrom prices rest k (withAll (with m r) records)) (omega arith)
 
 -- every record has a byte
-a-byte-each : (records : List Record) → length records ≤ length (bytesOfAll records)
+pub a-byte-each : (records : List Record) → length records ≤ length (bytesOfAll records)
 unfolding bytesOfAll recordBytes
 a-byte-each [] = omega arith
 a-byte-each (r ∷ records) = omega (arith, a-byte-each records, length-append (recordBytes r) (bytesOfAll records))

@@ -3,7 +3,7 @@ use mathlib.Core.Bool.{Bool, true, false}
 use mathlib.Core.List.{List, [], _∷_, _++_}
 use mathlib.Core.Logic.{_↔_, ⊎-elim}
 use mathlib.Core.Path.{_≡_, refl, sym, _∙_, ap, ap₂}
-use Prim.Native.Nat.{ℕ, zero, suc, _+_, _<_}
+use Prim.Native.Nat.{ℕ, zero, suc, _<_}
 use native.Mathlib.Nat.{eq-or-lt-of-le, le-of-suc-le-suc, not-suc-le-zero}
 use native.Mathlib.Omega.{arith}
 use Rattle.rules.specs.Accepted.{NoneRefuses, FirstRefuses}
@@ -101,6 +101,27 @@ pub unless-exactly : (test : Bool) (r : Refusal) (place : ℕ) → (unless test 
 unfolding unless
 unless-exactly true r place = (λ e. refl, λ e. refl)
 unless-exactly false r place = (λ e. absurd (refused-not-accepted e), λ e. let z : _≡_ {A = ℕ} 0 1 = cc in absurd (omega arith))
+
+-- A REFUSAL THAT A CHECK NEVER TELLS: where a list refuses so, that check accepts, and a later one refuses
+abbrev pub Never : Refusal → Verdict → Type 0
+Never r v = (place : ℕ) → v ≡ refused r place → ⊥
+
+pub never-by-test : (r other : Refusal) → (other ≡ r → ⊥) → (test : Bool) (at : ℕ) → Never r (unless test other at)
+unfolding unless
+never-by-test r other differ true at place e = refused-not-accepted (sym e)
+never-by-test r other differ false at place e = differ cc
+
+pub went-past : {r : Refusal} {place : ℕ} (check later : Verdict) → Never r check → andThen check later ≡ refused r place → (check ≡ accepted) × (later ≡ refused r place)
+unfolding andThen
+went-past accepted later never e = (refl, e)
+went-past (refused other at) later never e = absurd (never _ e)
+
+pub never-in-turn : (r : Refusal) (n : ℕ) (check : ℕ → Verdict) → ((i : ℕ) → Never r (check i)) → Never r (inTurn n check)
+unfolding inTurn figures first
+never-in-turn r zero check never place e = refused-not-accepted (sym e)
+never-in-turn r (suc n) check never place e =
+    let last = went-past (first (figures n check)) _ (never-in-turn r n check never) (sym (first-append (figures n check) (check n ∷ [])) ∙ e) in
+    never n place (sym (then-accepted (check n)) ∙ last .1)
 
 -- WHAT AN ANSWER TELLS of the verdict that it follows: accepted, where it gives a value, and the value is that of the call; else the refusal
 pub given-not-refusal : {A : Type 0} {a : A} {r : Refusal} {place : ℕ} → refusal r place ≡ given a → ⊥

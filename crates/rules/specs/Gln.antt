@@ -25,7 +25,8 @@ weightOfPosition position = cond (eqb (position % 2) 1) 1 3
 unfoldable pub weightedDigit : List ℕ → ℕ → ℕ
 weightedDigit gln position = weightOfPosition position * digitAtPosition gln position
 
--- "the sum of all digits, weighted": of positions 1, 2, .. to the last. GS1's worked example, product by product, is in WorkedServices.
+-- "the sum of all digits, weighted": of positions 1, 2, .. to the last. GS1's worked example, product by product, is in
+-- `worked_cases/specs/WorkedServices`.
 unfoldable pub weightedSum : List ℕ → ℕ
 weightedSum gln = sumFrom1 (length gln) (weightedDigit gln)
 

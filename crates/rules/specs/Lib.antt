@@ -1,5 +1,5 @@
 -- Document 01, and the requests of 02 that have landed, as definitions, to be read beside them in this order. Each stands under the sentence that it renders (of a
--- request, with its number).
+-- request, with its number). Last comes one small month worked through by them; every other worked case is in the crate `worked_cases`.
 -- An hour, a party, a reading and a record are numbered from 0; a series is a function from such a number to a figure.
 --
 -- THE SIGNS, for a reader without this language:
@@ -43,11 +43,10 @@ pub mod ReadingRefused
 pub mod Month
 pub mod PlainRecord
 pub mod Services
+pub mod Run
 pub mod Plan
 pub mod Brp
 pub mod BrpDemands
 pub mod Statement
 pub mod HoursReport
-pub mod WorkedCases
-pub mod WorkedMonths
-pub mod WorkedServices
+pub mod SmallMonth

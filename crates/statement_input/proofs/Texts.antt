@@ -54,9 +54,9 @@ module _ (setting : Setting) (per : Per) (file old : List ℕ) {held : List ℕ}
 
   -- A REFUSED ONE, in a buffer that has room for every statement: so 16 does not arise, and its statement is the refusal line
   module _ (room : statementRoom ≤ length old) {r : Refusal} {place : ℕ} (e : stated ≡ Refused r place) where
-    only-the-file : v ≡ fileVerdict (asked setting) file
+    only-the-file : v ≡ fileVerdict Run.needed (asked setting) file
     unfolding textVerdict unless
-    only-the-file = rw (le-leb statementRoom (length old) room) (then-accepted (fileVerdict (asked setting) file))
+    only-the-file = rw (le-leb statementRoom (length old) room) (then-accepted (fileVerdict Run.needed (asked setting) file))
 
     refusal-is : refusalText (verdict stated) ≡ text
     refusal-is =

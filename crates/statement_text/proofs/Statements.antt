@@ -13,9 +13,9 @@ use Rattle.answer.specs.declared.Refusal.{Refusal}
 use Rattle.answer.specs.declared.Refusal.the-variants.{WrongLength}
 use Rattle.month_sums.specs.Outcomes.{OutcomeIs}
 use Rattle.month_sums.specs.declared.Outcome.{Outcome}
-use Rattle.file_sections.specs.Walk.{Accepted}
+use Rattle.file_sections.specs.Walk.{AcceptedPriced}
 use Rattle.file_sections.specs.declared.Sections.{Sections}
-use Rattle.file_sections.proofs.AcceptedFile.{read-as, heading-text}
+use Rattle.file_sections.proofs.AcceptedFile.{read-as, read-without, heading-text}
 use Rattle.file_sections.proofs.Walking.{too-long}
 use Rattle.hour_settled.specs.declared.Sums.{Sums}
 use Rattle.rules.specs.Limits.{mostParties, longestFile}
@@ -23,6 +23,7 @@ use Rattle.rules.specs.Month.{monthOf, monthVerdict, estimatedHours, verdictOn,
 use Rattle.rules.specs.MonthFile.{MonthFile, readMonth}
 use Rattle.rules.specs.Refusals as R
 use Rattle.rules.specs.Setting as Run
+use Rattle.rules.specs.Setting.{needed}
 use Rattle.rules.specs.Statement as T
 use Rattle.setting.specs.Asked.{asked}
 use Rattle.setting.specs.declared.Setting.{Setting}
@@ -55,7 +56,7 @@ module _ (file : List ℕ) (s : Sections) {sums : Sums} (settled : Settled file 
           }
 
 -- A MONTH THAT WAS ACCEPTED
-module _ (setting : Setting) (file : List ℕ) (s : Sections) (ok : Accepted file s) {outcome : Outcome} (is : OutcomeIs setting (monthOf file) outcome) (done : outcome .answer ≡ Done) where
+module _ (setting : Setting) (file : List ℕ) (s : Sections) (ok : AcceptedPriced file s) {outcome : Outcome} (is : OutcomeIs setting (monthOf file) outcome) (done : outcome .answer ≡ Done) where
   abbrev m : MonthFile
   m = monthOf file
 
@@ -63,14 +64,14 @@ module _ (setting : Setting) (file : List ℕ) (s : Sections) (ok : Accepted fil
   no-refusal = sym (is .verdict) ∙ ap said done
 
   pub settled : Settled file s (outcome .sums)
-  settled = record { setting = asked setting; read = ok; no-refusal = no-refusal; sums-are = is .sums (ap said done) }
+  settled = record { setting = asked setting; read = read-without needed file s ok; no-refusal = no-refusal; sums-are = is .sums (ap said done) }
 
   pub counted : outcome .estimated ≡ estimatedHours m
   counted = is .estimated (ap said done)
 
-  file-accepted : fileVerdict (asked setting) file ≡ R.accepted
+  file-accepted : fileVerdict needed (asked setting) file ≡ R.accepted
   unfolding fileVerdict verdictOn
-  file-accepted = ap (verdictOn (asked setting)) (read-as file s ok (asked setting)) ∙ no-refusal
+  file-accepted = ap (verdictOn (asked setting)) (read-as needed file s ok) ∙ no-refusal
 
   text-verdict : (lent : ℕ) → textVerdict setting file lent ≡ R.unless (leb statementRoom lent) R.wrongLength 0
   unfolding textVerdict R.andThen
@@ -80,7 +81,7 @@ module _ (setting : Setting) (file : List ℕ) (s : Sections) (ok : Accepted fil
     -- THE STATEMENT OF THE FILE IS THESE LINES
     statement-is : T.statementPer (perOf per) (asked setting) file ≡ T.statementLines (perOf per) m
     unfolding T.statementPer T.answeredStatement T.judgedStatement
-    statement-is = ap (T.answeredStatement (perOf per) (asked setting)) (read-as file s ok (asked setting)) ∙ ap (T.judgedStatement (perOf per) m) no-refusal
+    statement-is = ap (T.answeredStatement (perOf per) (asked setting)) (read-as needed file s ok) ∙ ap (T.judgedStatement (perOf per) m) no-refusal
 
     pub too-short :
         (lent : ℕ) → lent < statementRoom → told (S.Refused WrongLength 0) ≡ R.answer (textVerdict setting file lent) (length (T.statementPer (perOf per) (asked setting) file))
@@ -105,7 +106,7 @@ module _ (setting : Setting) (file : List ℕ) (s : Sections) (ok : Accepted fil
         }
 
 -- a refused file: nothing is written
-pub refused-file : (setting : Setting) (per : Per) (file : List ℕ) (x : Refusal) (place : ℕ) (old : List ℕ) → fileVerdict (asked setting) file ≡ R.refused (named x) place
+pub refused-file : (setting : Setting) (per : Per) (file : List ℕ) (x : Refusal) (place : ℕ) (old : List ℕ) → fileVerdict needed (asked setting) file ≡ R.refused (named x) place
     → Promised setting per file old (S.Refused x place) old
 unfolding R.answer R.afterwards textVerdict R.andThen
 refused-file setting per file x place old e =
@@ -115,10 +116,10 @@ refused-file setting per file x place old e =
 
 -- and its statement is its refusal line
 pub refusal-text :
-    (setting : Run.Setting) (per : T.Per) (file : List ℕ) {r : R.Refusal} {place : ℕ} → fileVerdict setting file ≡ R.refused r place
+    (setting : Run.Setting) (per : T.Per) (file : List ℕ) {r : R.Refusal} {place : ℕ} → fileVerdict needed setting file ≡ R.refused r place
     → T.statementPer per setting file ≡ T.refusalLine r place
 unfolding fileVerdict verdictOn T.statementPer T.answeredStatement T.judgedStatement
-refusal-text setting per file {r} {place} e = go (readMonth setting file) e
+refusal-text setting per file {r} {place} e = go (readMonth needed file) e
   where
     go : (a : R.Answer MonthFile) → verdictOn setting a ≡ R.refused r place → T.answeredStatement per setting a ≡ T.refusalLine r place
     go (R.given m) f = ap (T.judgedStatement per m) f
@@ -127,4 +128,4 @@ refusal-text setting per file {r} {place} e = go (readMonth setting file) e
 -- "An empty or too long file is refused before all else, place 0": the same line for every file that long
 pub too-long-line : (setting : Run.Setting) (per : T.Per) (file : List ℕ) → longestFile < length file → T.statementPer per setting file ≡ T.refusalLine R.fileFault 0
 unfolding T.statementPer T.answeredStatement
-too-long-line setting per file long = ap (T.answeredStatement per setting) (sym (too-long setting file (omega arith) long))
+too-long-line setting per file long = ap (T.answeredStatement per setting) (sym (too-long needed file (omega arith) long))

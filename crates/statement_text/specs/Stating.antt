@@ -9,6 +9,7 @@ use Rattle.rules.specs.Limits.{mostParties}
 use Rattle.rules.specs.Month.{fileVerdict}
 use Rattle.rules.specs.Refusals as R
 use Rattle.rules.specs.Statement as T
+use Rattle.rules.specs.Setting.{needed}
 use Rattle.setting.specs.Asked.{asked}
 use Rattle.setting.specs.declared.Setting.{Setting}
 use Rattle.statement_lines.specs.Rooms.{headingRoom, columnsRoom}
@@ -37,7 +38,7 @@ told (Refused r place) = R.refusal (named r) place
 
 -- the refusals of the file, and last 16: a lent buffer shorter than the longest statement
 unfoldable pub textVerdict : Setting → List ℕ → ℕ → R.Verdict
-textVerdict setting file lent = R.andThen (fileVerdict (asked setting) file) (R.unless (leb statementRoom lent) R.wrongLength 0)
+textVerdict setting file lent = R.andThen (fileVerdict needed (asked setting) file) (R.unless (leb statementRoom lent) R.wrongLength 0)
 
 -- THE PROMISE: so many bytes at the start of the lent buffer are the statement of the file, and nothing further on is touched; refused, nothing is
 pub record Promised (setting : Setting) (per : Per) (file old : List ℕ) (r : Stated) (new : List ℕ) : Type 0 where

@@ -28,7 +28,7 @@ fn accepted<T>(told: Told<T>) -> T {
 pub fn run() {
     let arguments: Vec<String> = std::env::args().collect();
     let [_, service, which, times] = &arguments[..] else {
-        eprintln!("bench residual|curve|distribution|periodisation|plan|reconciliation|invoice compiled|plain TIMES");
+        eprintln!("bench residual|curve|distribution|periodisation|plan|reconciliation|amounts|invoice compiled|plain TIMES");
         return;
     };
     let times: usize = times.parse().expect("TIMES is a number");
@@ -123,6 +123,24 @@ pub fn run() {
                     PARTIES,
                     PARTIES,
                 ))
+            };
+            repeat(which, times, ours, theirs);
+        }
+        "amounts" => {
+            let prices = residuals.iter().map(|&wh| i64::from(wh % 60_000));
+            let prices: Vec<i64> = prices.collect();
+            // Of every two parties one has what the other lacks.
+            let hours = residuals.iter().map(|&wh| i64::from(wh));
+            let differences: Vec<i64> =
+                hours.flat_map(|wh| [wh, -wh].repeat(PARTIES / 2)).collect();
+            let lent = HOURS * PARTIES;
+            let ours = || {
+                let differences = black_box(&differences[..]);
+                accepted(compiled::amounts(differences, PARTIES, &prices, lent))
+            };
+            let theirs = || {
+                let differences = black_box(&differences[..]);
+                accepted(plain::amounts(differences, PARTIES, &prices, lent))
             };
             repeat(which, times, ours, theirs);
         }

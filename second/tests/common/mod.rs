@@ -61,6 +61,16 @@ pub fn assert_refused_as_final(file: &[u8], number: u8, place: usize) {
     assert_eq!(brp(file), line);
 }
 
+/// That the programs that print money refuse a file with this one line.
+#[allow(dead_code)]
+#[track_caller]
+pub fn assert_refused_for_amounts(file: &[u8], number: u8, place: usize) {
+    let line = format!("refused {number} at {place}\n");
+    assert_eq!(statement(file), line);
+    assert_eq!(brp(file), line);
+    assert_refused_as_provisional(file, number, place);
+}
+
 /// That the preview of a file is this one refusal line.
 #[allow(dead_code)]
 #[track_caller]

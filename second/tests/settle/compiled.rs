@@ -72,6 +72,15 @@ extern "C" {
         amounts_len: usize,
         loss: *mut i64,
     ) -> u64;
+    fn settle_amounts(
+        differences: *const i64,
+        differences_len: usize,
+        parties: usize,
+        prices: *const i64,
+        prices_len: usize,
+        amounts: *mut i64,
+        amounts_len: usize,
+    ) -> u64;
     fn settle_invoice(
         amounts: *const i64,
         amounts_len: usize,
@@ -258,6 +267,24 @@ pub fn reconciliation(
     let lent = differences.iter().chain(&amounts).chain([&loss]);
     let unchanged = lent.into_iter().all(|&figure| figure == pattern);
     told(answer, (loss, differences, amounts), unchanged)
+}
+
+pub fn amounts(differences: &[i64], parties: usize, prices: &[i64], lent: usize) -> Told<Vec<i64>> {
+    let mut out = vec![i64::from(PATTERN); lent];
+    // SAFETY: as above.
+    let answer = unsafe {
+        settle_amounts(
+            differences.as_ptr(),
+            differences.len(),
+            parties,
+            prices.as_ptr(),
+            prices.len(),
+            out.as_mut_ptr(),
+            out.len(),
+        )
+    };
+    let unchanged = out.iter().all(|&figure| figure == i64::from(PATTERN));
+    told(answer, out, unchanged)
 }
 
 pub fn invoice(amounts: &[i64], lent: usize) -> Told<Vec<i64>> {

@@ -4,5 +4,7 @@
 
 mod cases;
 mod compiled;
+mod inputs;
+mod priced_hours;
 mod random_inputs;
 mod yearly;

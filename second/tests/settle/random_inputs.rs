@@ -8,6 +8,8 @@ use second::random::Random;
 use second::refusal::Refusal;
 
 use crate::compiled::{self, Told, Year};
+use crate::inputs::{balance, faults, near, other_length, size};
+use crate::priced_hours::PricedHours;
 
 const INPUTS: u64 = 100_000;
 
@@ -47,35 +49,11 @@ fn of_second<T>(answer: Result<T, Refusal>) -> Told<T> {
     answer.map_err(|refusal| (refusal.number as u8, refusal.place))
 }
 
-/// No fault, one or two, of so many.
-fn faults(random: &mut Random, kinds: usize) -> Vec<usize> {
-    let count = [0, 1, 1, 2][random.below(4)];
-    (0..count).map(|_| random.below(kinds)).collect()
-}
-
-/// A count from 1 to most: mostly few, at times any.
-fn size(random: &mut Random, most: usize, any_once_in: u64) -> usize {
-    if random.once_in(any_once_in) {
-        return 1 + random.below(most);
-    }
-    1 + random.below(most.min(9))
-}
-
-/// At, one below or one above a limit.
-fn near(random: &mut Random, limit: i64) -> i64 {
-    limit + random.between(-1, 1)
-}
-
 fn near_or(random: &mut Random, limit: i64, extreme: u64) -> u64 {
     if random.once_in(4) {
         return extreme;
     }
     near(random, limit) as u64
-}
-
-/// Another length than this: one less, one more, none, or far more.
-fn other_length(random: &mut Random, length: usize) -> usize {
-    *random.pick(&[length.saturating_sub(1), length + 1, 0, length + 5_000])
 }
 
 const FLOW: u64 = 8_000_000_000;
@@ -741,17 +719,6 @@ fn balanced_amounts(random: &mut Random, parties: usize) -> Vec<i64> {
     amounts
 }
 
-/// Sets one of the amounts so that all add up to 0, as 64 bits count.
-fn balance(random: &mut Random, amounts: &mut [i64]) {
-    if amounts.is_empty() {
-        return;
-    }
-    let balancing = random.below(amounts.len());
-    amounts[balancing] = 0;
-    let sum = amounts.iter().fold(0i64, |sum, &a| sum.wrapping_add(a));
-    amounts[balancing] = sum.wrapping_neg();
-}
-
 /// Other amounts. Fault 0 is of the lent output alone.
 fn damage_amounts(random: &mut Random, amounts: &mut Vec<i64>, fault: usize) {
     if amounts.is_empty() {
@@ -816,4 +783,28 @@ fn invoice() {
         (5, &[0]),
     ];
     reached.assert_all("invoice", expected);
+}
+
+#[test]
+fn amounts() {
+    let mut reached = Reached::default();
+    for number in 0..INPUTS {
+        let mut random = Random::of_file(49, number);
+        let mut hours = PricedHours::good(&mut random);
+        let faults = faults(&mut random, PricedHours::FAULTS);
+        for &fault in &faults {
+            hours.damage(&mut random, fault);
+        }
+        let PricedHours {
+            differences,
+            parties,
+            prices,
+            lent,
+        } = hours;
+        let expected = second::reconciliation::amounts(&differences, parties, &prices, lent);
+        let told = compiled::amounts(&differences, parties, &prices, lent);
+        assert_eq!(told, of_second(expected), "input {number}");
+        reached.count(&faults, &told);
+    }
+    reached.assert_all("amounts", PricedHours::REFUSALS);
 }

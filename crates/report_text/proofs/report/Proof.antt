@@ -1,5 +1,6 @@
 -- `report_text::report` meets its contract: refused in the reading, or what the file that was read comes to. Assumes nothing.
-use Rattle.month_sums.proofs.Writing.{not-read, is-read}
+use Rattle.file_sections.proofs.Told.{not-read, is-read}
+use Rattle.setting.specs.declared.Prices.the-variants.{Optional}
 use Rattle.report_text.proofs.Reports.{refused-month}
 use borrow.Author.Needs.{needs}
 use Rattle.report_text.proofs.report.Statement.{statement}
@@ -21,12 +22,12 @@ after-reading-requires : tie.Need-after-reading-requires
 after-reading-requires c κs =
     let after-read3 = c .before .before .before .before in
     let after-read = after-read3 .before .before in
-    is-read (begins after-read .args .setting) _ (after-read .read .ensures) (after-read3 .read3 .given .1)
+    is-read Optional _ (after-read .read .ensures) (after-read3 .read3 .given .1)
 
 returns : tie.Need-returns
 returns c =
     let after-read = c .before .before .before in
-    refused-month _ _ _ _ _ _ (not-read (begins after-read .args .setting) _ (after-read .read .ensures) (c .before .read2 .given .1))
+    refused-month _ _ _ _ _ _ (not-read Optional (begins after-read .args .setting) _ (after-read .read .ensures) (c .before .read2 .given .1))
 
 same-length : tie.Need-same-length
 same-length c = search needs

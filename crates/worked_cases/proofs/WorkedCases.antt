@@ -1,7 +1,7 @@
 -- The cases of 01 marked P, each by computing the definitions.
 use mathlib.Core.Path.{refl}
-use Rattle.rules.specs.WorkedCases.{read, residualOf, curveOf, distributionOf, periodisationOf, invoiceOf, WorkedCases}
+use Rattle.worked_cases.specs.WorkedCases.{read, residualOf, curveOf, distributionOf, periodisationOf, invoiceOf, WorkedCases}
 use Rattle.rules.proofs.Computed.{words, hours, parts, services}
 
 pub worked-cases : WorkedCases
 unfolding words hours parts services read residualOf curveOf distributionOf periodisationOf invoiceOf

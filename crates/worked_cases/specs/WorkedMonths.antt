@@ -1,47 +1,28 @@
 -- Whole month files and what the rules give for each, from the file's bytes to the printed text: input S1 of 01 with its five lines, and the case D3 as a
--- month, both with the reviewer's report; a month of parts of an øre (W2); a small month whose figures can be followed by hand, also with a reading over several
--- months (W3); two of these months by their BRPs (W5); and each refusal 1 to 15, 17 and 18 once, two faults at a time where an order shows. Proved in
--- proofs/WorkedMonths, by computing the definitions.
+-- month, both with the reviewer's report; a month of parts of an øre (W2); the small month of `rules/specs/SmallMonth` without a refixed series, also with a reading over
+-- several months (W3); two of these months by their BRPs (W5); the small month without prices (W6); and each refusal 1 to 15, 17 and 18 once, two faults at a time
+-- where an order shows. Proved in proofs/WorkedMonths, by computing the definitions.
 use mathlib.Core.List.{List, [], _∷_, _++_}
 use mathlib.Core.Path.{_≡_}
 use Prim.Native.Nat.{ℕ}
 use Prim.Native.String.{String}
-use lib.IntN.{ℤ, pos, negsuc}
+use lib.IntN.{pos, negsuc}
 use lib.ListN.{take}
-use Rattle.rules.specs.Flows.{Flows}
 use Rattle.rules.specs.HoursReport.{hoursReport}
 use Rattle.rules.specs.Limits.{missing, measured, estimated}
-use Rattle.rules.specs.Record.{ownBrp, namedBrp, thisMonth, manyMonths, Record, heading, party, fixedHour, reading, price, refixedHour, end, recordBytes}
+use Rattle.rules.specs.Record.{namedBrp, manyMonths, Record, party, fixedHour, reading, price, refixedHour, end}
 use Rattle.rules.specs.Setting.{final, provisional}
+use Rattle.rules.specs.SmallMonth.{fileOf, supply, partyOf, readingOf, headingOf, begin, fixedHours, refixedHours, prices, small}
 use Rattle.rules.specs.Statement.{statement, brpStatement}
 use Rattle.rules.specs.Words.{ascii}
-
--- the file of these records
-unfoldable pub fileOf : List Record → List ℕ
-fileOf [] = []
-fileOf (r ∷ records) = recordBytes r ++ fileOf records
-
--- an hour whose only flow is its net supply
-unfoldable pub supply : ℕ → ℤ → Flows
-supply status net = record { status = status; net = net; production = 0; hourly = 0; flex = 0 }
-
-unfoldable pub partyOf : String → ℕ → Record
-partyOf gln share = party (record { gln = ascii gln; brp = ownBrp; share = share })
 
 -- W5: a supplier with the GLN of its BRP
 unfoldable pub brpPartyOf : String → String → ℕ → Record
 brpPartyOf gln brp share = party (record { gln = ascii gln; brp = namedBrp (ascii brp); share = share })
 
-unfoldable pub readingOf : ℕ → ℕ → ℕ → ℕ → Record
-readingOf who a b e = reading (record { party = who; a = a; b = b; e = e; over = thisMonth })
-
--- W3: one over several months, with the weight before this month and the weight of the whole reading
+-- W3: a reading over several months, with the weight before this month and the weight of the whole reading
 unfoldable pub longReadingOf : ℕ → ℕ → ℕ → ℕ → ℕ → ℕ → Record
 longReadingOf who a b e before whole = reading (record { party = who; a = a; b = b; e = e; over = manyMonths before whole })
-
-unfoldable pub headingOf : ℕ → ℕ → ℕ → ℕ → ℕ → ℕ → Record
-headingOf area year month hours parties carrier =
-    heading (record { area = area; year = year; month = month; hours = hours; parties = parties; carrier = carrier })
 
 -- "Input S1, the example of H2 6.3"
 unfoldable pub S1 : List ℕ
@@ -143,26 +124,7 @@ oreBrps =
     ∷ brpPartyOf "0000000000055" "0000000000079" 1
     ∷ [])
 
--- A month of two hours and two parties of equal shares; the second party's one reading runs over both hours. Its parts can be put in faulty.
-unfoldable pub begin : ℕ → ℕ → List Record
-begin share0 share1 =
-    headingOf 1 2020 1 2 2 0 ∷ partyOf "0000000000017" share0 ∷ partyOf "0000000000024" share1 ∷ []
-
-unfoldable pub fixedHours : Flows → Flows → List Record
-fixedHours f0 f1 = fixedHour 0 f0 ∷ fixedHour 1 f1 ∷ []
-
-unfoldable pub refixedHours : Flows → Flows → List Record
-refixedHours f0 f1 = refixedHour 0 f0 ∷ refixedHour 1 f1 ∷ []
-
--- 0 and 1,000,000 øre per MWh: an invoice is then the difference of hour 1, in Wh
-unfoldable pub prices : List Record
-prices = price 0 (pos 0) ∷ price 1 (pos 1000000) ∷ []
-
-unfoldable pub small : Flows → Flows → Flows → Flows → ℕ → ℕ → ℕ → List ℕ
-small f0 f1 r0 r1 share0 share1 e =
-    fileOf (begin share0 share1 ++ fixedHours f0 f1 ++ refixedHours r0 r1 ++ prices ++ (readingOf 1 0 2 e ∷ end 10 ∷ []))
-
--- the same without a refixed series, and with the last records given
+-- the small month without a refixed series, and with the last records given
 unfoldable pub unrefixed : ℕ → ℕ → List Record → List ℕ
 unrefixed share0 share1 records =
     fileOf (begin share0 share1 ++ fixedHours (supply measured (pos 1)) (supply measured (pos 3)) ++ prices ++ records)
@@ -209,17 +171,6 @@ pub record WorkedMonths : Type 0 where
       ≡ ascii
       "area 005 2016-08 hours 2 parties 5 estimated 0\n0000000000017 3 3 0 0 1\n0000000000024 3 5 0 2 1\n0000000000031 3 4 0 1 -1\n0000000000048 3 0 1 -2 -1\n0000000000055 3 2 0 -1 0\ntotal 15 14 1 0 0\n"
   pub report-refused : hoursReport final [] ≡ ascii "refused 1 at 0\n"
-  -- "The curve always comes from the fixed one": 1 and 3, so E = 4 falls 1 and 3 (by the refixed 2 and 2 it would fall 2 and 2). The second party has 1
-  -- and 1 distributed, so its differences are 0 and 2. Applied hours with status 2: one, the refixed hour 1.
-  pub curve-from-fixed :
-      statement final (small (supply measured (pos 1)) (supply measured (pos 3)) (supply measured (pos 2)) (supply estimated (pos 2)) 1 1 4)
-      ≡ ascii
-      "area 001 2020-01 hours 2 parties 2 estimated 1\n0000000000017 2 0 0 -2 -2\n0000000000024 2 4 0 2 2\ntotal 4 4 0 0 0\n"
-  -- the same month in the report: hour 1 measured at fixation and estimated at refixation
-  pub report-of-both-series :
-      hoursReport final (small (supply measured (pos 1)) (supply measured (pos 3)) (supply measured (pos 2)) (supply estimated (pos 2)) 1 1 4)
-      ≡ ascii
-      "area 001 2020-01 hours 2 parties 2 estimated 1\n0 measured measured 1 2 500000 2 1 1\n1 measured estimated 3 2 1500000 2 3 -1\n0000000000017 0/2 0/2\n0000000000024 0/2 0/2\n"
   -- without refixed hours the fixed ones are applied, in a provisional run; two readings of one party add up; the loss of either sign is the carrier's
   pub fixed-applied :
       statement provisional (closing (readingOf 1 0 2 4 ∷ readingOf 1 1 2 2 ∷ end 9 ∷ []))

@@ -1,7 +1,8 @@
 -- The worked months, each by computing the definitions from the file's bytes to the printed text.
 use mathlib.Core.Path.{refl}
-use Rattle.rules.specs.WorkedMonths.{fileOf, supply, partyOf, brpPartyOf, readingOf, longReadingOf, headingOf, S1, D3of, D3, D3brps, oreOf, wholeOre, oreBrps, begin, fixedHours, refixedHours, prices, small, unrefixed, closing, volumes, emptyFirst, opening, WorkedMonths}
+use Rattle.worked_cases.specs.WorkedMonths.{brpPartyOf, longReadingOf, S1, D3of, D3, D3brps, oreOf, wholeOre, oreBrps, unrefixed, closing, volumes, emptyFirst, opening, WorkedMonths}
+use Rattle.rules.specs.SmallMonth.{fileOf, supply, partyOf, readingOf, headingOf, begin, fixedHours, refixedHours, prices, small}
 use Rattle.rules.proofs.Computed.{words, hours, parts, records, files, months, texts, reports}
 
 pub worked-months : WorkedMonths
 unfolding words hours parts records files months texts reports fileOf supply partyOf brpPartyOf readingOf longReadingOf headingOf S1 D3of D3 D3brps oreOf wholeOre oreBrps begin fixedHours refixedHours prices small unrefixed closing volumes emptyFirst opening
@@ -13,8 +14,6 @@ worked-months =
       D3-report = refl;
       whole-ore-lines = refl;
       report-refused = refl;
-      curve-from-fixed = refl;
-      report-of-both-series = refl;
       fixed-applied = refl;
       refused-1-empty = refl;
       refused-1-no-end = refl;

@@ -1,8 +1,9 @@
 -- The services' cases, each by computing the definitions.
 use mathlib.Core.Path.{refl}
-use Rattle.rules.specs.WorkedMonths.{supply, partyOf, brpPartyOf, readingOf, longReadingOf}
-use Rattle.rules.specs.WorkedServices.{none, still, monthsOf, meter, planPart, WorkedServices}
+use Rattle.worked_cases.specs.WorkedMonths.{brpPartyOf, longReadingOf}
+use Rattle.worked_cases.specs.WorkedServices.{none, still, monthsOf, meter, planPart, WorkedServices}
+use Rattle.rules.specs.SmallMonth.{supply, partyOf, readingOf}
 use Rattle.rules.proofs.Computed.{words, hours, parts, records, plains, services, plans}
 
 pub worked-services : WorkedServices
 unfolding words hours parts records plains services plans supply partyOf brpPartyOf readingOf longReadingOf none still monthsOf meter planPart

@@ -5,18 +5,19 @@ use mathlib.Core.Path.{_≡_}
 use Prim.Native.Nat.{ℕ, suc}
 use lib.IntN.{ℤ, pos, negsuc}
 use lib.ListN.{replicate, take}
+use Rattle.worked_cases.specs.WorkedMonths.{brpPartyOf, longReadingOf}
 use Rattle.rules.specs.Gln.{digitAtPosition, weightOfPosition, weightedDigit, weightedSum}
 use Rattle.rules.specs.PlainRecord.{plainVerdict}
 use Rattle.rules.specs.Plan.{LongReading, planned, planChecks}
 use Rattle.rules.specs.Record.{readingKind, priceKind, endKind, longReadingKind, brpPartyKind, manyMonths, Reading, fixedHour, price, end, bodyLength, recordBytes, readAlone}
 use Rattle.rules.specs.Record.{writeVerdict, written}
 use Rattle.rules.specs.Refusals.{fileFault, unknownKind, outOfRange, glnFault, wOutOfRange, missingHour, residualNegative, residualTooLarge}
 use Rattle.rules.specs.Refusals.{curveTooLarge, spanFault, energyTooLarge, nothingToFollow, periodisedTooLarge, wrongLength, differenceTooLarge, accepted, refused, given}
 use Rattle.rules.specs.Refusals.{refusal, first}
 use Rattle.rules.specs.Services.{residualChecks, residualFigures, curveChecks, distributionChecks, periodisationChecks}
 use Rattle.rules.specs.Services.{reconciliationChecks, reconciliationLoss, reconciliationDifferences, reconciliationAmounts, amountsChecks, amountsFigures, invoiceChecks, invoiceFigures}
-use Rattle.rules.specs.WorkedMonths.{supply, partyOf, brpPartyOf, readingOf, longReadingOf}
+use Rattle.rules.specs.SmallMonth.{supply, partyOf, readingOf}
 use Rattle.rules.specs.Words.{figures, ascii}
 
 -- nothing in two hours
 unfoldable pub none : List ℕ
