@@ -13,10 +13,11 @@ use Rattle.month_walk.specs.Hours.{QuantitiesAre}
 use Rattle.month_walk.specs.Walking.{HourAsked}
 use Rattle.month_walk.specs.declared.Held.{Held}
 use Rattle.month_walk.proofs.Bounds.{few-parties}
-use Rattle.month_run.specs.InRun.{distributedInRun, periodisedInRun, differenceInRun, lossInRun}
+use Rattle.month_run.specs.InRun.{distributedInRun, periodisedInRun, lossInRun}
 use Rattle.month_run.specs.Running.{Running, HourLent, HourWritten}
 use Rattle.rules.specs.Month.{monthOf, distributed, periodised, difference, loss}
 use Rattle.rules.specs.MonthFile.{MonthFile, P}
+use Rattle.rules.specs.Run.{differenceInRun}
 use Rattle.rules.proofs.Loops.{Filling, fill-next}
 
 -- place t x n + i is hour t, party i

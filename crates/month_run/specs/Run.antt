@@ -10,12 +10,13 @@ use lib.ListN.{length}
 use Rattle.answer.specs.Said.{said}
 use Rattle.answer.specs.declared.Answer.{Answer}
 use Rattle.month_walk.specs.Hours.{allLimited}
-use Rattle.month_run.specs.InRun.{distributedInRun, periodisedInRun, differenceInRun, lossInRun}
+use Rattle.month_run.specs.InRun.{distributedInRun, periodisedInRun, lossInRun}
 use Rattle.setting.specs.Asked.{asked}
 use Rattle.setting.specs.declared.Setting.{Setting}
 use Rattle.rules.specs.Month.{monthOf, fileVerdict}
 use Rattle.rules.specs.MonthFile.{H, P}
 use Rattle.rules.specs.Refusals.{outOfRange, wrongLength, Verdict, unless, andThen, afterwards}
+use Rattle.rules.specs.Run.{differenceInRun}
 use Rattle.rules.specs.Setting.{optional}
 use Rattle.rules.specs.Words.{figures}
 

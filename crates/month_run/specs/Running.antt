@@ -9,11 +9,12 @@ use Rattle.file_sections.specs.declared.Sections.{Sections}
 use Rattle.hour_settled.specs.declared.Quantities.{Quantities}
 use Rattle.month_walk.specs.Hours.{allLimited}
 use Rattle.month_walk.specs.Walking.{MonthKnown}
-use Rattle.month_run.specs.InRun.{distributedInRun, periodisedInRun, differenceInRun, lossInRun}
+use Rattle.month_run.specs.InRun.{distributedInRun, periodisedInRun, lossInRun}
 use Rattle.rules.specs.Limits.{mostParties}
 use Rattle.rules.specs.Month.{monthOf}
 use Rattle.rules.specs.MonthFile.{MonthFile, H, P}
 use Rattle.rules.specs.Refusals.{accepted}
+use Rattle.rules.specs.Run.{differenceInRun}
 use Rattle.rules.specs.Words.{figures}
 use Rattle.rules.proofs.Loops.{Filling}
 
