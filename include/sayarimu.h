@@ -1,7 +1,7 @@
 /* The services of settlement, for C. Each takes any input, checks it in the order given, and answers
  *
  *     0                       accepted: every lent output holds its figures
- *     number + 256 x place    refused: the number and the place of 01 ("Refusal numbers"), and nothing is written
+ *     number + 256 x place    refused: the number and the place of 01 ("Refusal numbers"; 19: 02, W6), nothing is written
  *
  * so the number is answer % 256 and the place answer / 256. Places count from 0; where no place is named it is 0.
  *
@@ -21,8 +21,9 @@
 
 /* Which functions there are, and what they mean; a caller can ask for it by #if. 1 was the header without a number. 2 has
  * `settle_invoice` in place of `settle_invoice_ore`, which rounded one amount by itself (02, W2). 3 adds `settle_plan`, the
- * planner of readings over several months, and leaves the rest as it was (02, W3). */
-#define SAYARIMU_VERSION 3
+ * planner of readings over several months, and leaves the rest as it was (02, W3). 4 adds `settle_amounts`, which prices the
+ * differences of hours, and the refusal 19, and leaves the rest as it was (02, W6). */
+#define SAYARIMU_VERSION 4
 
 #ifdef __cplusplus
 extern "C" {
@@ -95,6 +96,16 @@ uint64_t settle_reconciliation(uint32_t residual_wh,
                                int64_t *differences_wh, size_t differences_len,
                                int64_t *amounts_millionths, size_t amounts_len,
                                int64_t *loss_wh);
+
+/* AMOUNTS. Each difference times the price of its hour into `amounts`. Differences and amounts stand hour by hour and within an
+ * hour party by party, and `prices` has one price for each hour. Refuses, in order: 16, `amounts` not as long as the
+ * differences; 4, differences not as many as parties x prices, then hours (the number of prices) outside 1..745 or parties
+ * outside 1..64, the first price outside -5,000,000..5,000,000 at its hour, the first hour whose differences have a sum, which
+ * does not wrap, other than 0, at that hour; 19, the first hour with a difference below -2,000,000,001 or above 2,000,000,001,
+ * at that hour. Lent: `amounts`. */
+uint64_t settle_amounts(const int64_t *differences_wh, size_t differences_len, size_t parties,
+                        const int64_t *prices_ore, size_t prices_len,
+                        int64_t *amounts_millionths, size_t amounts_len);
 
 /* INVOICE. The parties' exact amounts of a month in whole øre, which add up to 0, into `out`: each is rounded down, also
  * below zero, and the øre then missing from zero go one each to the largest remainders, lower party number first. An amount

@@ -46,6 +46,7 @@ services =
           let e = reconciliation-once p q in
           (e .0, λ i. record { differences = e .1 .0 i; amounts = e .1 .1 i });
       loss-of = λ party carrier loss. one-value _;
+      amounts = λ differences parties prices lent. one-answered _ _ lent;
       invoice = λ amounts lent. one-answered _ _ lent;
       plan = plan-once;
     }
@@ -72,6 +73,7 @@ services-for-C =
                   loss = (p .holds-loss ∙ sym (q .holds-loss)) i;
                 },
           );
+      amounts = λ differences parties prices lent. one-numbered _ _ lent;
       invoice = λ amounts lent. one-numbered _ _ lent;
       plan =
           λ reading lent n m held held′ p q. (

@@ -59,6 +59,7 @@ nothing-written =
             differences = left _ _ _ refuses (p .holds-differences) i;
             amounts = left _ _ _ refuses (p .holds-amounts) i;
           };
+      amounts = λ differences parties prices lent. answered _ _ lent;
       invoice = λ amounts lent. answered _ _ lent;
       residual-for-C = λ statuses nets productions hourlies flexes lent. numbered _ _ lent;
       curve-for-C = λ residuals w lent. numbered _ _ lent;
@@ -71,6 +72,7 @@ nothing-written =
             amounts = left _ _ _ (not-zero _ (p .answer) some) (p .holds-amounts) i;
             loss = number-left _ _ _ (not-zero _ (p .answer) some) (p .holds-loss) i;
           };
+      amounts-for-C = λ differences parties prices lent. numbered _ _ lent;
       invoice-for-C = λ amounts lent. numbered _ _ lent;
       plan-for-C =
           λ reading lent n held some p i.

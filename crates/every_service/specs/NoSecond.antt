@@ -6,6 +6,7 @@ use mathlib.Core.List.{List}
 use mathlib.Core.Path.{_≡_}
 use Prim.Native.Nat.{ℕ}
 use lib.IntN.{ℤ}
+use Rattle.amounts_service.specs.Promised as Amounts
 use Rattle.answer.specs.Promised as Answer
 use Rattle.answer.specs.declared.Refusal.{Refusal}
 use Rattle.curve_numbers.specs.Promised as Curve
@@ -53,6 +54,7 @@ pub record Services : Type 0 where
       (residual : ℕ) (distributed : List ℤ) (periodised : List ℕ) (carrier : ℕ) (price : ℤ) (lent : HourLists)
       → OneFitsWith (HourPromised residual distributed periodised carrier price lent)
   pub loss-of : (party carrier : ℕ) (loss : ℤ) → OneFits (Reconcile.LossOfPromised party carrier loss)
+  pub amounts : (differences : List ℤ) (parties : ℕ) (prices lent : List ℤ) → OneFitsWith (Amounts.Promised differences parties prices lent)
   pub invoice : (amounts lent : List ℤ) → OneFitsWith (Invoice.Promised amounts lent)
   pub plan : (r : LongReading) → OneFits (Plan.Promised r)
 
@@ -67,6 +69,7 @@ pub record ServicesForC : Type 0 where
   pub reconciliation :
       (residual : ℕ) (distributed : List ℤ) (periodised : List ℕ) (carrier : ℕ) (price : ℤ) (lent : HourForC)
       → OneFitsWith (HourForCPromised residual distributed periodised carrier price lent)
+  pub amounts : (differences : List ℤ) (parties : ℕ) (prices lent : List ℤ) → OneFitsWith (C.AmountsPromised differences parties prices lent)
   pub invoice : (amounts lent : List ℤ) → OneFitsWith (C.InvoicePromised amounts lent)
   pub plan : (r : LongReading) (lent : PlanForC) → OneFitsWith (PlanForCPromised r lent)
 

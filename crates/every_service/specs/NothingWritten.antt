@@ -5,6 +5,7 @@ use mathlib.Core.List.{List}
 use mathlib.Core.Path.{_≡_}
 use Prim.Native.Nat.{ℕ, _<_}
 use lib.IntN.{ℤ}
+use Rattle.amounts_service.specs.Promised as Amounts
 use Rattle.answer.specs.Said.{said}
 use Rattle.curve_numbers.specs.Promised as Curve
 use Rattle.distribute_service.specs.Promised as Distribution
@@ -61,6 +62,9 @@ pub record NothingWritten : Type 0 where
   pub reconciliation :
       (residual : ℕ) (distributed : List ℤ) (periodised : List ℕ) (carrier : ℕ) (price : ℤ) (lent : HourLists)
       → Unwritten (Refuses Hour.verdict) lent (HourPromised residual distributed periodised carrier price lent)
+  pub amounts :
+      (differences : List ℤ) (parties : ℕ) (prices lent : List ℤ)
+      → Unwritten (Refuses said) lent (Amounts.Promised differences parties prices lent)
   pub invoice : (amounts lent : List ℤ) → Unwritten (Refuses said) lent (Invoice.Promised amounts lent)
   pub residual-for-C :
       (statuses : List ℕ) (nets : List ℤ) (productions hourlies flexes lent : List ℕ)
@@ -71,6 +75,9 @@ pub record NothingWritten : Type 0 where
   pub reconciliation-for-C :
       (residual : ℕ) (distributed : List ℤ) (periodised : List ℕ) (carrier : ℕ) (price : ℤ) (lent : HourForC)
       → Unwritten NotZero lent (HourForCPromised residual distributed periodised carrier price lent)
+  pub amounts-for-C :
+      (differences : List ℤ) (parties : ℕ) (prices lent : List ℤ)
+      → Unwritten NotZero lent (C.AmountsPromised differences parties prices lent)
   pub invoice-for-C : (amounts lent : List ℤ) → Unwritten NotZero lent (C.InvoicePromised amounts lent)
   pub plan-for-C : (r : LongReading) (lent : PlanForC) → Unwritten NotZero lent (PlanForCPromised r lent)
   pub write : (r : Record) (gln brpGln lent : List ℕ) → Unwritten (Refuses wroteVerdict) lent (Write.Promised r gln brpGln lent)

@@ -17,8 +17,8 @@ use Rattle.rules.specs.Limits.{mostHours, mostParties, mostWeights}
 use Rattle.plan.proofs.Checking.{all-at-0}
 use Rattle.rules.specs.Plan.{LongReading, monthCount, hoursVerdict, partyVerdict, partVerdict, weightVerdict, listChecks, spanChecks, handedChecks, planChecks, lentPlanChecks}
 use Rattle.rules.specs.Refusals.{Refusal, Verdict, accepted, refused, unless, andThen, first, inTurn, numberOf, outOfRange}
-use Rattle.rules.specs.Services.{checkAt, eachAt, checkAtℤ, eachAtℤ, flowsOf, silentCheck, hourCheck}
-use Rattle.rules.specs.Services.{residualChecks, curveChecks, distributionChecks, periodisationChecks, reconciliationChecks, invoiceChecks}
+use Rattle.rules.specs.Services.{checkAt, eachAt, checkAtℤ, eachAtℤ, flowsOf, silentCheck, hourCheck, addsUpCheck, beyondCheck}
+use Rattle.rules.specs.Services.{residualChecks, curveChecks, distributionChecks, periodisationChecks, reconciliationChecks, amountsChecks, invoiceChecks}
 use Rattle.rules.specs.Words.{figures, within}
 use Rattle.settle_c.specs.Coded.{coded}
 use Rattle.settle_c.proofs.Told.{within-place}
@@ -158,6 +158,18 @@ reconciliation-early residual distributed periodised carrier price lentDifferenc
     first-early _ _ (unless-early _ _ 0 (omega arith)) (λ _.
     first-early _ _ (unless-early _ _ 0 (omega arith)) (λ _.
     last-early _ (unless-early _ _ 0 (omega arith))))))))))
+
+pub amounts-early : (differences : List ℤ) (parties : ℕ) (prices : List ℤ) (lent : ℕ) → Early (first (amountsChecks differences parties prices lent))
+unfolding amountsChecks addsUpCheck beyondCheck
+amounts-early differences parties prices lent =
+    first-early _ _ (unless-early _ _ 0 (omega arith)) (λ _.
+    first-early _ _ (unless-early _ _ 0 (omega arith)) (λ _.
+    first-early _ _ (unless-early _ _ 0 (omega arith)) (λ shape.
+    let sizes = both-pass (within 1 mostHours (length prices)) (within 1 mostParties parties) (unless-exactly _ outOfRange 0 .0 shape) in
+    let hours : length prices ≤ mostWeights = omega (arith, within-is 1 mostHours (length prices) (sizes .0) .1) in
+    first-early _ _ (each-earlyℤ prices _ _ hours) (λ _.
+    first-early _ _ (in-turn-early (length prices) _ hours (λ t b. unless-early _ _ t b)) (λ _.
+    last-early _ (in-turn-early (length prices) _ hours (λ t b. unless-early _ _ t b)))))))
 
 pub invoice-early : (amounts : List ℤ) (lent : ℕ) → Early (first (invoiceChecks amounts lent))
 unfolding invoiceChecks

@@ -8,7 +8,8 @@ use lib.ListN.{length}
 use Rattle.rules.specs.Plan.{LongReading, monthCount, partFrom, partTo, plannedBefore, plannedWhole, lentPlanChecks}
 use Rattle.rules.specs.Refusals.{Verdict, first, afterwards}
 use Rattle.rules.specs.Services.{residualChecks, residualFigures, curveChecks, curveFigures, distributionChecks, distributionFigures}
-use Rattle.rules.specs.Services.{periodisationChecks, periodisationFigures, reconciliationChecks, reconciliationLoss, reconciliationDifferences, reconciliationAmounts, invoiceChecks, invoiceFigures}
+use Rattle.rules.specs.Services.{periodisationChecks, periodisationFigures, reconciliationChecks, reconciliationLoss, reconciliationDifferences, reconciliationAmounts}
+use Rattle.rules.specs.Services.{amountsChecks, amountsFigures, invoiceChecks, invoiceFigures}
 use Rattle.rules.specs.Words.{figures}
 use Rattle.settle_c.specs.Coded.{coded, kept}
 
@@ -57,6 +58,11 @@ pub record ReconciliationPromised
       amounts′
       ≡ afterwards (hourVerdict residual distributed periodised carrier price differences amounts)
       (reconciliationAmounts (reconciliationDifferences residual distributed periodised carrier) price) amounts
+
+-- `settle_amounts`
+abbrev pub AmountsPromised : List ℤ → ℕ → List ℤ → List ℤ → ℕ → List ℤ → Type 0
+AmountsPromised differences parties prices lent =
+    Numbered (first (amountsChecks differences parties prices (length lent))) (amountsFigures differences parties prices) lent
 
 -- `settle_invoice`
 abbrev pub InvoicePromised : List ℤ → List ℤ → ℕ → List ℤ → Type 0

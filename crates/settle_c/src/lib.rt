@@ -14,7 +14,7 @@ ghost use Rattle.plan.specs.Planning.{handed};
 ghost use Rattle.record.specs.Record.{overOf};
 ghost use Rattle.rules.specs.Month.{weightBefore, wholeWeight};
 ghost use Rattle.settle_c.specs.Planned.{PlacesFor, NumbersOf};
-ghost use Rattle.settle_c.specs.Promised.{ResidualPromised, CurvePromised, DistributionPromised, PeriodisationPromised, ReconciliationPromised, InvoicePromised, PlanPromised};
+ghost use Rattle.settle_c.specs.Promised.{ResidualPromised, CurvePromised, DistributionPromised, PeriodisationPromised, ReconciliationPromised, AmountsPromised, InvoicePromised, PlanPromised};
 
 // Up to this place, 2 ^ 56 - 1, number + 256 x place is within 64 bits. Every service refuses far below it.
 const GREATEST_PLACE: usize = 72_057_594_037_927_935;
@@ -121,6 +121,26 @@ pub extern "C" fn settle_reconciliation(
             code(refused)
         }
     }
+}
+
+// AMOUNTS: each difference times the price of its hour into `amounts_millionths`.
+#[no_mangle]
+pub extern "C" fn settle_amounts(
+    differences_wh: &[i64],
+    parties: usize,
+    prices_ore: &[i64],
+    amounts_millionths: &mut [i64],
+) -> u64
+    ensures { λ r. ⌜ AmountsPromised (now («differences_wh» .entry)) parties (now («prices_ore» .entry)) (now («amounts_millionths» .entry))
+        r (now («amounts_millionths» .exit)) ⌝ }
+{
+    let answered = amounts_service::amounts(
+        differences_wh,
+        parties,
+        prices_ore,
+        amounts_millionths,
+    );
+    code(answered)
 }
 
 // INVOICE: the whole øre of each exact amount into `out_ore`, adding up to 0.

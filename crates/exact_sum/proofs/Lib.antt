@@ -1,0 +1,2 @@
+pub mod Nothing
+pub mod Parts
