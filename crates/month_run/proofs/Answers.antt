@@ -1,4 +1,4 @@
--- The call on a whole file: what its answer is in each case, and what the lent outputs hold.
+-- The call on a run of hours: what its answer is in each case, and what the lent outputs hold.
 use mathlib.Core.Bool.{true}
 use mathlib.Core.List.{List}
 use mathlib.Core.Path.{_≡_, refl, sym, _∙_, ap, ap₂, subst}
@@ -12,15 +12,17 @@ use Rattle.answer.specs.declared.Answer.the-variants.{Done, Refused}
 use Rattle.answer.specs.declared.Refusal.{Refusal}
 use Rattle.file_sections.specs.Walk.{Accepted}
 use Rattle.file_sections.specs.declared.Sections.{Sections}
-use Rattle.file_sections.proofs.AcceptedFile.{read-as, hours-are, parties-are}
-use Rattle.month_run.specs.Run.{inMonth, lentRight, askedVerdict, runVerdict, Promised}
-use Rattle.month_run.specs.Running.{MonthAccepted, RunLent, RunIs}
+use Rattle.file_sections.proofs.AcceptedFile.{hours-are, parties-are}
+use Rattle.month_walk.specs.Hours.{allLimited}
+use Rattle.month_run.specs.Run.{inMonth, lentRight, askedVerdict, runVerdict, Promised, HoursAnswered}
+use Rattle.month_run.specs.Running.{RunLent, RunIs}
 use Rattle.month_run.proofs.Verdicts.{run-inside, lengths}
 use Rattle.setting.specs.Asked.{asked}
 use Rattle.setting.specs.declared.Setting.{Setting}
-use Rattle.rules.specs.Month.{monthOf, verdictOn, fileVerdict}
+use Rattle.rules.specs.Month.{monthOf, fileVerdict}
 use Rattle.rules.specs.MonthFile.{H, P}
-use Rattle.rules.specs.Refusals.{outOfRange, wrongLength, Verdict, refused, unless, andThen, afterwards}
+use Rattle.rules.specs.Refusals.{outOfRange, wrongLength, Verdict, accepted, refused, unless, andThen, afterwards}
+use Rattle.rules.specs.Setting.{optional}
 use Rattle.rules.proofs.Refusals.{both-accept, unless-exactly}
 
 module _ (setting : Setting) (file : List ℕ) (start hours : ℕ) (d : List ℤ) (p : List ℕ) (x l : List ℤ) where
@@ -28,7 +30,7 @@ module _ (setting : Setting) (file : List ℕ) (start hours : ℕ) (d : List ℤ
   verdict-asked = askedVerdict (H (monthOf file)) (P (monthOf file)) start hours (length d) (length p) (length x) (length l)
 
   -- a refused call leaves every lent output as it was
-  pub refused-call :
+  refused-call :
       {r : Answer} {v : Refusal} {place : ℕ}
       → r ≡ Refused v place
       → said r ≡ runVerdict setting file start hours (length d) (length p) (length x) (length l)
@@ -41,22 +43,30 @@ module _ (setting : Setting) (file : List ℕ) (start hours : ℕ) (d : List ℤ
   pub refused-file :
       {r : Answer} {v : Refusal} {place : ℕ}
       → r ≡ Refused v place
-      → fileVerdict (asked setting) file ≡ refused (named v) place
+      → fileVerdict optional (asked setting) file ≡ refused (named v) place
       → Promised setting file start hours r d p x l d p x l
   unfolding runVerdict andThen
   refused-file {r} {v} {place} e is =
       refused-call e (ap said e ∙ sym (ap (λ (u : Verdict). andThen u verdict-asked) is))
 
-module _ {setting : Setting} {file : List ℕ} {s : Sections} (ok : Accepted file s) (none : MonthAccepted setting (monthOf file)) where
-  -- the month is not refused, so what is asked of it decides
+-- 14: what is made before the hours refuses nothing, and an hour does
+pub refused-hour :
+    (file : List ℕ) (start hours : ℕ) (d : List ℤ) (p : List ℕ) (x l : List ℤ) {r : Answer} {v : Refusal} {place : ℕ}
+    → said r ≡ allLimited (monthOf file)
+    → r ≡ Refused v place
+    → HoursAnswered file start hours r d p x l d p x l
+refused-hour file start hours d p x l limited e =
+    record { under = λ setting decides. refused-file setting file start hours d p x l e (decides ∙ sym limited ∙ ap said e) }
+
+-- no hour is refused, so what is asked of the month decides
+module _ {file : List ℕ} {s : Sections} (ok : Accepted file s) (none : allLimited (monthOf file) ≡ accepted) where
   module _ (start hours d p x l : ℕ) (right : Answer) (judged : said right ≡ askedVerdict (s .heading .hours) (s .heading .parties) start hours d p x l) where
-    run-verdict : said right ≡ runVerdict setting file start hours d p x l
-    unfolding runVerdict andThen fileVerdict verdictOn
-    run-verdict =
+    run-verdict : (setting : Setting) → fileVerdict optional (asked setting) file ≡ allLimited (monthOf file) → said right ≡ runVerdict setting file start hours d p x l
+    unfolding runVerdict andThen
+    run-verdict setting decides =
         judged
         ∙ sym
-        (ap (λ (u : Verdict). andThen u (askedVerdict (H (monthOf file)) (P (monthOf file)) start hours d p x l))
-        (ap (verdictOn (asked setting)) (read-as file s ok (asked setting)) ∙ none .accepts)
+        (ap (λ (u : Verdict). andThen u (askedVerdict (H (monthOf file)) (P (monthOf file)) start hours d p x l)) (decides ∙ none)
         ∙ ap₂ (λ (h n : ℕ). askedVerdict h n start hours d p x l) (sym (hours-are file s ok)) (sym (parties-are file s ok)))
 
     module _ (passed : right ≡ Done) where
@@ -87,22 +97,29 @@ module _ {setting : Setting} {file : List ℕ} {s : Sections} (ok : Accepted fil
   module _ (start hours : ℕ) (d : List ℤ) (p : List ℕ) (x l : List ℤ) {right : Answer}
       (judged : said right ≡ askedVerdict (s .heading .hours) (s .heading .parties) start hours (length d) (length p) (length x) (length l)) where
     -- 4 or 16
-    pub refused-run : {v : Refusal} {place : ℕ} → right ≡ Refused v place → Promised setting file start hours right d p x l d p x l
-    refused-run e = refused-call setting file start hours d p x l e (run-verdict start hours (length d) (length p) (length x) (length l) right judged)
+    pub refused-run : {v : Refusal} {place : ℕ} → right ≡ Refused v place → HoursAnswered file start hours right d p x l d p x l
+    refused-run e =
+        record {
+          under = λ setting decides.
+              refused-call setting file start hours d p x l e (run-verdict start hours (length d) (length p) (length x) (length l) right judged setting decides);
+        }
 
     pub written :
         right ≡ Done
         → {d′ : List ℤ} {p′ : List ℕ} {x′ l′ : List ℤ}
         → RunIs (monthOf file) start (length l) d′ p′ x′ l′
-        → Promised setting file start hours Done d p x l d′ p′ x′ l′
+        → HoursAnswered file start hours Done d p x l d′ p′ x′ l′
     unfolding afterwards
     written passed {d′} {p′} {x′} {l′} r =
         let as-many : length l ≡ hours = sizes start hours (length d) (length p) (length x) (length l) right judged passed .3 in
         let run = subst (λ (h : ℕ). RunIs (monthOf file) start h d′ p′ x′ l′) as-many r in
         record {
-          answer = sym (ap said passed) ∙ run-verdict start hours (length d) (length p) (length x) (length l) right judged;
-          distributed = run .distributed;
-          periodised = run .periodised;
-          differences = run .differences;
-          losses = run .losses;
+          under = λ setting decides.
+              record {
+                answer = sym (ap said passed) ∙ run-verdict start hours (length d) (length p) (length x) (length l) right judged setting decides;
+                distributed = run .distributed;
+                periodised = run .periodised;
+                differences = run .differences;
+                losses = run .losses;
+              };
         }

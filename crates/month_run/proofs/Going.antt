@@ -11,7 +11,7 @@ use Rattle.answer.specs.declared.Answer.{Answer}
 use Rattle.answer.specs.declared.Answer.the-variants.{Done, Refused}
 use Rattle.distribute.specs.declared.Carries.{Carries}
 use Rattle.file_sections.specs.declared.Sections.{Sections}
-use Rattle.month_run.specs.InRun.{distributedInRun, periodisedInRun, differenceInRun, lossInRun}
+use Rattle.month_run.specs.InRun.{distributedInRun, periodisedInRun, lossInRun}
 use Rattle.month_run.specs.Running.{RunKnown, RunLent, Running, RunIs}
 use Rattle.month_walk.specs.Walking.{Beginning, Walked, begun, StepAsked, HourOn, SteppedIs, HourAsked, windowPlaces}
 use Rattle.month_walk.specs.declared.Walk.{Walk}
@@ -19,6 +19,7 @@ use Rattle.month_walk.proofs.Walking.{walk-begins, residual-there, few, hour-on
 use Rattle.rules.specs.Limits.{mostHours}
 use Rattle.rules.specs.Month.{monthOf}
 use Rattle.rules.specs.MonthFile.{MonthFile, H, P}
+use Rattle.rules.specs.Run.{differenceInRun}
 use Rattle.rules.proofs.Loops.{Filling, fill-start, fill-end}
 use Rattle.rules.proofs.Refusals.{refused-not-accepted}
 

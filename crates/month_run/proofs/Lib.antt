@@ -2,5 +2,4 @@ pub mod Verdicts
 pub mod Answers
 pub mod OneHour
 pub mod Going
-pub mod Making
 pub mod MonthSums

@@ -11,13 +11,14 @@ use Rattle.answer.specs.declared.Answer.{Answer}
 use Rattle.answer.specs.declared.Answer.the-variants.{Done}
 use Rattle.answer.proofs.Said.{said-once}
 use Rattle.month_run.specs.Run.{Promised}
-use Rattle.month_run.specs.InRun.{distributedInRun, periodisedInRun, differenceInRun, lossInRun}
+use Rattle.month_run.specs.InRun.{distributedInRun, periodisedInRun, lossInRun}
 use Rattle.month_run.proofs.OneHour.{in-run}
 use Rattle.setting.specs.declared.Setting.{Setting}
 use Rattle.rules.specs.Month.{monthOf, distributed, periodised, difference, loss, monthDistributed, monthPeriodised, monthDifference, monthLoss}
 use Rattle.rules.specs.MonthFile.{MonthFile, H, P}
 use Rattle.rules.specs.Reconciliation.{lossOf}
 use Rattle.rules.specs.Refusals.{Verdict, afterwards}
+use Rattle.rules.specs.Run.{differenceInRun}
 use Rattle.rules.specs.Services.{atℤ}
 use Rattle.rules.specs.Words.{sum, sumℤ, at, figures}
 use Rattle.rules.proofs.Integers.{sumℤ-cong}

@@ -8,15 +8,16 @@ use lib.IntN.{ℤ}
 use lib.ListN.{length}
 use Rattle.file_sections.specs.declared.Sections.{Sections}
 use Rattle.file_sections.proofs.AcceptedFile.{parties-are}
-use Rattle.hour_settled.specs.declared.Settled.{Settled}
-use Rattle.month_walk.specs.Hours.{SettledIs}
+use Rattle.hour_settled.specs.declared.Quantities.{Quantities}
+use Rattle.month_walk.specs.Hours.{QuantitiesAre}
 use Rattle.month_walk.specs.Walking.{HourAsked}
 use Rattle.month_walk.specs.declared.Held.{Held}
 use Rattle.month_walk.proofs.Bounds.{few-parties}
-use Rattle.month_run.specs.InRun.{distributedInRun, periodisedInRun, differenceInRun, lossInRun}
+use Rattle.month_run.specs.InRun.{distributedInRun, periodisedInRun, lossInRun}
 use Rattle.month_run.specs.Running.{Running, HourLent, HourWritten}
 use Rattle.rules.specs.Month.{monthOf, distributed, periodised, difference, loss}
 use Rattle.rules.specs.MonthFile.{MonthFile, P}
+use Rattle.rules.specs.Run.{differenceInRun}
 use Rattle.rules.proofs.Loops.{Filling, fill-next}
 
 -- place t x n + i is hour t, party i
@@ -76,10 +77,10 @@ module _ {file : List ℕ} {s : Sections} {t residual : ℕ} {v : Held} {figures
   pub hour-lent : HourLent (s .heading .parties) j (length d) (length p) (length x) (length l)
   hour-lent = rw n-is lent-for
 
-  module _ {settled : Settled} (is : SettledIs m t settled) {d′ : List ℤ} {p′ : List ℕ} {x′ l′ : List ℤ}
-      (put : HourWritten settled (s .heading .parties) j d p x l d′ p′ x′ l′) where
-    written : HourWritten settled (P m) j d p x l d′ p′ x′ l′
-    written = subst (λ (n : ℕ). HourWritten settled n j d p x l d′ p′ x′ l′) n-is put
+  module _ {quantities : Quantities} (is : QuantitiesAre m t quantities) {d′ : List ℤ} {p′ : List ℕ} {x′ l′ : List ℤ}
+      (put : HourWritten quantities (s .heading .parties) j d p x l d′ p′ x′ l′) where
+    written : HourWritten quantities (P m) j d p x l d′ p′ x′ l′
+    written = subst (λ (n : ℕ). HourWritten quantities n j d p x l d′ p′ x′ l′) n-is put
 
     hour-is : start + j ≡ t
     hour-is = omega arith

@@ -1,5 +1,5 @@
--- A run of hours of a month (01 "Distributed consumption", "Periodised consumption", "Reconciliation"): every party's distributed, periodised and difference
--- in each of them, and the loss. Figures stand hour by hour and within an hour party by party.
+-- The call on a run of hours of a month (02, W6): "one operation gives distributed, periodised, loss and difference per hour". Figures stand hour by hour and
+-- within an hour party by party.
 use mathlib.Core.Bool.{Bool, _&&_}
 use mathlib.Core.List.{List}
 use mathlib.Core.Path.{_≡_}
@@ -9,12 +9,15 @@ use lib.IntN.{ℤ}
 use lib.ListN.{length}
 use Rattle.answer.specs.Said.{said}
 use Rattle.answer.specs.declared.Answer.{Answer}
-use Rattle.month_run.specs.InRun.{distributedInRun, periodisedInRun, differenceInRun, lossInRun}
+use Rattle.month_walk.specs.Hours.{allLimited}
+use Rattle.month_run.specs.InRun.{distributedInRun, periodisedInRun, lossInRun}
 use Rattle.setting.specs.Asked.{asked}
 use Rattle.setting.specs.declared.Setting.{Setting}
 use Rattle.rules.specs.Month.{monthOf, fileVerdict}
 use Rattle.rules.specs.MonthFile.{H, P}
 use Rattle.rules.specs.Refusals.{outOfRange, wrongLength, Verdict, unless, andThen, afterwards}
+use Rattle.rules.specs.Run.{differenceInRun}
+use Rattle.rules.specs.Setting.{optional}
 use Rattle.rules.specs.Words.{figures}
 
 -- a run is of one hour or more, and lies in the month's hours
@@ -32,10 +35,11 @@ askedVerdict all parties start hours distributed periodised differences losses =
     andThen (unless (inMonth all start hours) outOfRange 0)
     (unless (lentRight (hours * parties) hours distributed periodised differences losses) wrongLength 0)
 
--- THE VERDICT OF THE CALL: all that refuses the month under the setting given, over all its hours, and then what is asked of it
+-- THE VERDICT OF THE CALL: all that refuses the month under the setting given, with or without its prices and over all its hours, and then what is asked of it.
+-- W6: "A file for the first alone may have no 05 records"
 unfoldable pub runVerdict : Setting → List ℕ → ℕ → ℕ → ℕ → ℕ → ℕ → ℕ → Verdict
 runVerdict setting file start hours distributed periodised differences losses =
-    andThen (fileVerdict (asked setting) file)
+    andThen (fileVerdict optional (asked setting) file)
     (askedVerdict (H (monthOf file)) (P (monthOf file)) start hours distributed periodised differences losses)
 
 -- THE PROMISE OF THE CALL: its answer, and what each lent output holds afterwards
@@ -45,3 +49,7 @@ pub record Promised (setting : Setting) (file : List ℕ) (start hours : ℕ) (r
   pub periodised : p ≡ afterwards (said r) (figures (hours * P (monthOf file)) (periodisedInRun (monthOf file) start)) p₀
   pub differences : x ≡ afterwards (said r) (figures (hours * P (monthOf file)) (differenceInRun (monthOf file) start)) x₀
   pub losses : l ≡ afterwards (said r) (figures hours (lossInRun (monthOf file) start)) l₀
+
+-- the same of a month that nothing refuses before its hours, whatever the setting: 14 decides, and then what is asked
+pub record HoursAnswered (file : List ℕ) (start hours : ℕ) (r : Answer) (d₀ : List ℤ) (p₀ : List ℕ) (x₀ l₀ d : List ℤ) (p : List ℕ) (x l : List ℤ) : Type 0 where
+  pub under : (setting : Setting) → fileVerdict optional (asked setting) file ≡ allLimited (monthOf file) → Promised setting file start hours r d₀ p₀ x₀ l₀ d p x l

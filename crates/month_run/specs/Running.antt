@@ -6,26 +6,22 @@ use lib.IntN.{ℤ, pos}
 use lib.ListN.{set}
 use Rattle.distribute.specs.Written.{FilledOn}
 use Rattle.file_sections.specs.declared.Sections.{Sections}
-use Rattle.hour_settled.specs.declared.Settled.{Settled}
+use Rattle.hour_settled.specs.declared.Quantities.{Quantities}
+use Rattle.month_walk.specs.Hours.{allLimited}
 use Rattle.month_walk.specs.Walking.{MonthKnown}
-use Rattle.month_run.specs.InRun.{distributedInRun, periodisedInRun, differenceInRun, lossInRun}
-use Rattle.setting.specs.Asked.{asked}
-use Rattle.setting.specs.declared.Setting.{Setting}
+use Rattle.month_run.specs.InRun.{distributedInRun, periodisedInRun, lossInRun}
 use Rattle.rules.specs.Limits.{mostParties}
-use Rattle.rules.specs.Month.{monthOf, periodisedVerdict, monthVerdict}
+use Rattle.rules.specs.Month.{monthOf}
 use Rattle.rules.specs.MonthFile.{MonthFile, H, P}
-use Rattle.rules.specs.Refusals.{accepted, inTurn}
+use Rattle.rules.specs.Refusals.{accepted}
+use Rattle.rules.specs.Run.{differenceInRun}
 use Rattle.rules.specs.Words.{figures}
 use Rattle.rules.proofs.Loops.{Filling}
-
--- none of the month's checks refuses it, under the setting
-pub record MonthAccepted (setting : Setting) (m : MonthFile) : Type 0 where
-  pub accepts : monthVerdict (asked setting) m ≡ accepted
 
 -- what the run is walked with: no hour of the month is refused with 14
 pub record RunKnown (file : List ℕ) (s : Sections) (applied curveNumbers beginnings : List ℕ) : Type 0 where
   pub month : MonthKnown file s applied curveNumbers beginnings
-  pub none-refuses : inTurn (H (monthOf file)) (periodisedVerdict (monthOf file)) ≡ accepted
+  pub none-refuses : allLimited (monthOf file) ≡ accepted
 
 -- a run of as many hours as losses are asked for lies in the month, and a place is lent for each figure
 pub record RunLent (m : MonthFile) (start distributed periodised differences losses : ℕ) : Type 0 where
@@ -51,11 +47,11 @@ pub record HourLent (n j distributed periodised differences losses : ℕ) : Type
   pub losses-fit : j < losses
 
 -- and are
-pub record HourWritten (settled : Settled) (n j : ℕ) (d₀ : List ℤ) (p₀ : List ℕ) (x₀ l₀ d : List ℤ) (p : List ℕ) (x l : List ℤ) : Type 0 where
-  pub distributed : FilledOn (pos 0) (settled .«distributed_wh») n (j * n) d₀ d
-  pub periodised : FilledOn 0 (settled .«periodised_wh») n (j * n) p₀ p
-  pub differences : FilledOn (pos 0) (settled .«differences_wh») n (j * n) x₀ x
-  pub losses : l ≡ set l₀ j (settled .«loss_wh»)
+pub record HourWritten (quantities : Quantities) (n j : ℕ) (d₀ : List ℤ) (p₀ : List ℕ) (x₀ l₀ d : List ℤ) (p : List ℕ) (x l : List ℤ) : Type 0 where
+  pub distributed : FilledOn (pos 0) (quantities .«distributed_wh») n (j * n) d₀ d
+  pub periodised : FilledOn 0 (quantities .«periodised_wh») n (j * n) p₀ p
+  pub differences : FilledOn (pos 0) (quantities .«differences_wh») n (j * n) x₀ x
+  pub losses : l ≡ set l₀ j (quantities .«loss_wh»)
 
 -- THE RUN IS WRITTEN
 pub record RunIs (m : MonthFile) (start hours : ℕ) (d : List ℤ) (p : List ℕ) (x l : List ℤ) : Type 0 where

@@ -5,3 +5,4 @@ pub mod Windows
 pub mod Opening
 pub mod Walking
 pub mod Judging
+pub mod Chain

@@ -1,13 +1,11 @@
 -- `month_run::hours` meets its contract: refused in the reading, or what the month that was read comes to. Assumes nothing.
 use mathlib.Core.Path.{refl}
-use Rattle.month_sums.proofs.Writing.{not-read, is-read}
+use Rattle.setting.specs.declared.Prices.the-variants.{Optional}
+use Rattle.file_sections.proofs.Told.{not-read, is-read}
 use Rattle.month_run.proofs.Answers.{refused-file}
 use borrow.Author.Needs.{needs}
 use Rattle.month_run.proofs.hours.Statement.{statement}
 use Rattle.month_run.proofs.hours.Tie as tie
-
-abbrev begins : tie.After-read → tie.Start
-begins c = c .before .before .before
 
 read-requires : tie.Need-read-requires
 read-requires c κs = search needs
@@ -22,12 +20,12 @@ hours-accepted-requires : tie.Need-hours-accepted-requires
 hours-accepted-requires c κs =
     let told = c .before .before .before .before .before in
     let read = told .before .before in
-    is-read (begins read .args .setting) _ (read .read .ensures) (told .read3 .given .1)
+    is-read Optional _ (read .read .ensures) (told .read3 .given .1)
 
 returns : tie.Need-returns
 returns c =
     let read = c .before .before .before in
-    refused-file _ _ _ _ _ _ _ _ refl (not-read (begins read .args .setting) _ (read .read .ensures) (c .before .read2 .given .1))
+    refused-file _ _ _ _ _ _ _ _ refl (not-read Optional (read .before .before .before .args .setting) _ (read .read .ensures) (c .before .read2 .given .1))
 
 same-length : tie.Need-same-length
 same-length c = c .before .before .before .before .distributed-wh .given

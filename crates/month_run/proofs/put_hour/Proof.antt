@@ -43,7 +43,7 @@ returns c =
     let after-loss = after-signed .before .before .before .before in
     let told = after-loss .before .before in
     let given = told .before .before .before .before .before .args in
-    let fits : SFits w64 (given .settled .«loss_wh») = record { sfits = told .struct-told .given .1 .1 .1 .1 .0 .1 } in
+    let fits : SFits w64 (given .quantities .«loss_wh») = record { sfits = told .struct-told .given .1 .1 .1 .0 .1 } in
     record {
       distributed = after-signed .put-figures .ensures .fills;
       periodised = c .before .before .before .before .before .before .put-wh .ensures .fills;

@@ -5,7 +5,7 @@ use borrow.Author.Needs.{needs}
 use Rattle.month_run.proofs.run_hour.Statement.{statement}
 use Rattle.month_run.proofs.run_hour.Tie as tie
 
-abbrev begins : tie.After-settled → tie.Start
+abbrev begins : tie.After-quantities → tie.Start
 begins c = c .before .before .before .before .before .before .before .before
 
 returns : tie.Need-returns
@@ -14,8 +14,8 @@ returns c = not-begun (c .before .before .before .before .pre .1 .1) (omega arit
 cast-n : tie.Need-cast-n
 cast-n c = search needs
 
-settled-requires : tie.Need-settled-requires
-settled-requires c κs = c .before .before .before .before .before .before .before .pre .0
+quantities-requires : tie.Need-quantities-requires
+quantities-requires c κs = c .before .before .before .before .before .before .before .pre .0
 
 put-hour-requires : tie.Need-put-hour-requires
 put-hour-requires c κs =
@@ -37,9 +37,9 @@ same-length-4 c = search needs
 returns-2 : tie.Need-returns-2
 returns-2 c =
     let put = c .before .before .before .before .before in
-    let settled = put .before .before .before .before .before in
-    let start = begins settled in
-    hour-on (start .pre .0) (start .pre .1 .0) (omega arith) (start .pre .1 .1) (settled .settled .ensures) (put .put-hour .ensures)
+    let given = put .before .before .before .before .before in
+    let start = begins given in
+    hour-on (start .pre .0) (start .pre .1 .0) (omega arith) (start .pre .1 .1) (given .quantities .ensures) (put .put-hour .ensures)
 
 pub run-hour-spec : {M : Type 1} → statement M
 run-hour-spec =
@@ -47,7 +47,7 @@ run-hour-spec =
     (tie.spec
     returns
     cast-n
-    settled-requires
+    quantities-requires
     put-hour-requires
     same-length
     same-length-2
