@@ -11,7 +11,7 @@ use Rattle.answer.specs.Said.{said}
 use Rattle.answer.specs.declared.Answer.the-variants.{Done, Refused}
 use Rattle.answer.specs.declared.Refusal.{Refusal}
 use Rattle.report_distances.specs.declared.Distances.{Distances}
-use Rattle.month_sums.proofs.Chain.{refused-before, hours-decide}
+use Rattle.month_walk.proofs.Chain.{refused-before, hours-decide}
 use Rattle.month_prepare.specs.Checks.{Making, MadeIs}
 use Rattle.month_prepare.specs.declared.Made.{Made}
 use Rattle.month_prepare.proofs.Preparing.{still-as-many, lent-again}

@@ -17,7 +17,7 @@ use Rattle.report_text.specs.declared.Reported.the-variants as S
 use Rattle.report_text.proofs.Parts.{parts-make-the-report}
 use Rattle.file_sections.proofs.AcceptedFile.{month-of}
 use Rattle.file_sections.proofs.Walking.{too-long}
-use Rattle.month_sums.proofs.Writing.{turned-false}
+use Rattle.answer.proofs.Checks.{flag-off}
 use Rattle.rules.specs.HoursReport.{judgedReport, answeredReport, hoursReport}
 use Rattle.rules.specs.Limits.{longestFile}
 use Rattle.rules.specs.Month.{monthOf, verdictOn, fileVerdict}
@@ -58,7 +58,7 @@ module _ (m : MonthFile) where
   unfolding R.answer R.unless
   too-short first rest parties {room} ok is none =
       let v : reportVerdict R.accepted first rest parties ≡ R.refused R.wrongLength 0 =
-      report-verdict first rest parties ∙ ap (λ (t : Bool). R.unless t R.wrongLength 0) (sym is ∙ turned-false room none) in
+      report-verdict first rest parties ∙ ap (λ (t : Bool). R.unless t R.wrongLength 0) (sym is ∙ flag-off room none) in
       ap (λ (w : R.Verdict). R.answer w (lengthsOf m)) (sym (ap (λ (w : R.Verdict). reportVerdict w first rest parties) ok ∙ v))
 
   module _ (first rest parties : List ℕ) where

@@ -1,7 +1,7 @@
 -- `report_figures::pass_made` meets its contract: refused before the hours, or these are passed. Assumes nothing.
 use mathlib.Core.Path.{refl, ap}
 use Rattle.answer.specs.Said.{said}
-use Rattle.month_sums.proofs.Chain.{month-known, beginning}
+use Rattle.month_walk.proofs.Chain.{month-known, beginning}
 use Rattle.report_figures.proofs.Making.{not-made, numbers-made}
 use borrow.Author.Needs.{needs}
 use Rattle.report_figures.proofs.pass_made.Statement.{statement}

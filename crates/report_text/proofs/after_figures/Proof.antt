@@ -2,7 +2,7 @@
 use mathlib.Core.Path.{refl, sym, _∙_, ap}
 use Rattle.report_text.proofs.Making.{known, distanced, counted}
 use Rattle.report_text.proofs.Reports.{roomy, too-short, refused-month, answered-as}
-use Rattle.month_sums.proofs.Writing.{turned-true}
+use Rattle.answer.proofs.Checks.{flag-on}
 use Rattle.answer.specs.Said.{said}
 use Rattle.rules.specs.Refusals.{afterwards}
 use borrow.Author.Needs.{needs}
@@ -45,7 +45,7 @@ three-parts-requires c κs =
         distanced _ _ (start .pre .0) (start .pre .1) (after-enum-told .enum-told .given .1),
         (
           counted _ _ (start .pre .0) (start .pre .1) (after-enum-told .enum-told .given .1),
-          roomy _ _ _ (sym (after-has-room .has-room .ensures) ∙ turned-true _ (else1 .if1 .left)),
+          roomy _ _ _ (sym (after-has-room .has-room .ensures) ∙ flag-on _ (else1 .if1 .left)),
         ),
       ),
     )
