@@ -42,7 +42,7 @@ module _ {setting : Setting} {file : List ℕ} {start hours : ℕ} {r : Answer} 
   unfolding afterwards runDifferences
   differences-are = is .differences ∙ ap (λ (v : Verdict). afterwards v (figures (hours * P m) (differenceInRun m start)) x₀) ok
 
-  module _ {prices : List ℤ} {a : Answer} {lent held : List ℤ} (second : Second.Promised x (P m) prices lent a held) (room : length lent ≡ hours * P m) where
+  module _ (prices : List ℤ) {a : Answer} {lent held : List ℤ} (second : Second.Promised x (P m) prices lent a held) (room : length lent ≡ hours * P m) where
     answers : first (amountsChecks (runDifferences m start hours) (P m) prices (hours * P m)) ≡ accepted → said a ≡ accepted
     answers passes =
         second .answer ∙ ap (λ (l : List ℤ). first (amountsChecks l (P m) prices (length lent))) differences-are
@@ -67,7 +67,7 @@ module _ {setting : Setting} {file : List ℕ} {start hours : ℕ} {r : Answer} 
 -- OF A WHOLE MONTH: both calls over all its hours give, added up, what the call on the whole month writes as each party's amount
 module _ {setting : Setting} {file : List ℕ} {hours : ℕ} {r : Answer} {d₀ : List ℤ} {p₀ : List ℕ} {x₀ l₀ d : List ℤ} {p : List ℕ} {x l : List ℤ}
     (is : First.Promised setting file 0 hours r d₀ p₀ x₀ l₀ d p x l) (ok : said r ≡ accepted) (all : hours ≡ H (monthOf file))
-    {prices : List ℤ} {a : Answer} {lent held : List ℤ} (second : Second.Promised x (P (monthOf file)) prices lent a held) (room : length lent ≡ hours * P (monthOf file))
+    (prices : List ℤ) {a : Answer} {lent held : List ℤ} (second : Second.Promised x (P (monthOf file)) prices lent a held) (room : length lent ≡ hours * P (monthOf file))
     (the-file's : prices ≡ runPrices (monthOf file) 0 hours)
     {s : Settlement} (before after : Outputs) (call : Kept setting file s before after) (settled : verdict s ≡ accepted) where
   pub amounts-of-the-call : (i : ℕ) → i < P (monthOf file) → atℤ (after .amounts) i ≡ sumℤ (H (monthOf file)) (λ t. atℤ held (t * P (monthOf file) + i))
@@ -75,7 +75,7 @@ module _ {setting : Setting} {file : List ℕ} {hours : ℕ} {r : Answer} {d₀ 
   amounts-of-the-call i b =
       let month : MonthFile = monthOf file in
       let meets = the-month-meets before after call settled in
-      let held-is = amounts-are-the-month's is ok second room (meets .all-priced) the-file's in
+      let held-is = amounts-are-the-month's is ok prices second room (meets .all-priced) the-file's in
       meets .amount-sums i b ∙ sym (month-amounts-are-sums month i b)
       ∙ sumℤ-cong (H month)
       (λ t c. ap (λ (l : List ℤ). atℤ l (t * P month + i)) (second-after-the-first month 0 (H month) ∙ ap (λ (n : ℕ). runAmounts month 0 n) (sym all) ∙ sym held-is))

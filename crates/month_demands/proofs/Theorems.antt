@@ -63,12 +63,11 @@ module _ (setting : Setting) (file : List ℕ) (lent : Outputs) where
   the-call :
       settleVerdict setting file (length (lent .distributed)) (length (lent .periodised)) (length (lent .losses)) (length (lent .differences)) (length (lent .amounts))
       ≡ verdictFor (readMonth needed file)
-  unfolding settleVerdict callVerdict fileVerdict monthOf
+  unfolding settleVerdict callVerdict fileVerdict monthOf verdictOn andThen
   the-call = go (readMonth needed file) refl
     where
       -- a file that is read is read as its month; of one that is not, no length is asked
       go : (read : Answer MonthFile) → readMonth needed file ≡ read → andThen (verdictOn (asked setting) read) (last (monthRead (readMonth optional file))) ≡ verdictFor read
-      unfolding verdictOn andThen
       go (given m) is = ap (λ (a : Answer MonthFile). andThen (monthVerdict (asked setting) m) (last (monthRead a))) (read-alike needed file is)
       go (refusal r place) is = refl
 

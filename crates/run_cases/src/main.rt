@@ -17,10 +17,22 @@ fn refused(x: Refusal, place: usize) {
     io::write_all(OUT, b"\n");
 }
 
+fn print_up_to(line: &[u8], end: usize) {
+    if end <= line.len() {
+        io::write_all(OUT, &line[0..end]);
+    }
+}
+
+fn print_in(line: &mut [u8], z: i64) {
+    if 32 <= line.len() {
+        let end = text::put_column(line, 0, z);
+        print_up_to(line, end);
+    }
+}
+
 fn figure(z: i64) {
     let mut line = [0u8; 32];
-    let end = text::put_column(&mut line[0..32], 0, z);
-    io::write_all(OUT, &line[0..end]);
+    print_in(&mut line[0..32], z);
 }
 
 fn figures(name: &[u8], all: &[i64]) {
@@ -36,7 +48,7 @@ fn figures_wh(name: &[u8], all: &[u32]) {
     io::write_all(OUT, name);
     let mut i = 0;
     while i < all.len() {
-        figure(all[i] as i64);
+        figure(reconcile::signed(all[i]));
         i += 1;
     }
 }
@@ -55,15 +67,40 @@ fn quantities(
     io::write_all(OUT, b"\n");
 }
 
+// The first operation, into these outputs.
+fn run_lent(
+    file: &[u8],
+    start: usize,
+    hours: usize,
+    distributed_wh: &mut [i64],
+    periodised_wh: &mut [u32],
+    differences_wh: &mut [i64],
+    losses_wh: &mut [i64],
+) {
+    let answered = month_run::hours(
+        file,
+        Setting::Final,
+        start,
+        hours,
+        distributed_wh,
+        periodised_wh,
+        differences_wh,
+        losses_wh,
+    );
+    match answered {
+        Answer::Refused(x, place) => refused(x, place),
+        Answer::Done => quantities(distributed_wh, periodised_wh, differences_wh, losses_wh),
+    }
+}
+
 // A run of so many hours, into outputs that have a place for each figure of two.
 fn run_case(file: &[u8], start: usize, hours: usize) {
     let mut distributed_wh = [0i64; 4];
     let mut periodised_wh = [0u32; 4];
     let mut differences_wh = [0i64; 4];
     let mut losses_wh = [0i64; 2];
-    let answered = month_run::hours(
+    run_lent(
         file,
-        Setting::Final,
         start,
         hours,
         &mut distributed_wh[0..4],
@@ -71,15 +108,6 @@ fn run_case(file: &[u8], start: usize, hours: usize) {
         &mut differences_wh[0..4],
         &mut losses_wh[0..2],
     );
-    match answered {
-        Answer::Refused(x, place) => refused(x, place),
-        Answer::Done => quantities(
-            &distributed_wh[0..4],
-            &periodised_wh[0..4],
-            &differences_wh[0..4],
-            &losses_wh[0..2],
-        ),
-    }
 }
 
 // One hour, into outputs of its own length.
@@ -88,9 +116,8 @@ fn hour_case(file: &[u8], start: usize) {
     let mut periodised_wh = [0u32; 2];
     let mut differences_wh = [0i64; 2];
     let mut losses_wh = [0i64; 1];
-    let answered = month_run::hours(
+    run_lent(
         file,
-        Setting::Final,
         start,
         1,
         &mut distributed_wh[0..2],
@@ -98,58 +125,71 @@ fn hour_case(file: &[u8], start: usize) {
         &mut differences_wh[0..2],
         &mut losses_wh[0..1],
     );
-    match answered {
-        Answer::Refused(x, place) => refused(x, place),
-        Answer::Done => quantities(
-            &distributed_wh[0..2],
-            &periodised_wh[0..2],
-            &differences_wh[0..2],
-            &losses_wh[0..1],
-        ),
-    }
 }
 
-// The second operation, on so many prices.
-fn amounts_case(differences_wh: &[i64], prices_ore: &[i64]) {
-    let mut amounts_millionths = [0i64; 4];
+// The second operation, into this output.
+fn amounts_lent(differences_wh: &[i64], prices_ore: &[i64], amounts_millionths: &mut [i64]) {
     let answered = amounts_service::amounts(
         differences_wh,
         PARTIES,
         prices_ore,
-        &mut amounts_millionths[0..4],
+        amounts_millionths,
     );
     match answered {
         Answer::Refused(x, place) => refused(x, place),
         Answer::Done => {
-            figures(b"amount", &amounts_millionths[0..4]);
+            figures(b"amount", amounts_millionths);
             io::write_all(OUT, b"\n");
         }
     }
 }
 
+// Of two hours.
+fn amounts_case(differences_wh: &[i64], prices_ore: &[i64]) {
+    let mut amounts_millionths = [0i64; 4];
+    amounts_lent(differences_wh, prices_ore, &mut amounts_millionths[0..4]);
+}
+
 // The second after the first: day 1's differences, and the prices that came on day 5.
-fn priced_later(file: &[u8]) {
-    let mut distributed_wh = [0i64; 4];
-    let mut periodised_wh = [0u32; 4];
-    let mut differences_wh = [0i64; 4];
-    let mut losses_wh = [0i64; 2];
+fn priced_later(
+    file: &[u8],
+    distributed_wh: &mut [i64],
+    periodised_wh: &mut [u32],
+    differences_wh: &mut [i64],
+    losses_wh: &mut [i64],
+) {
     let answered = month_run::hours(
         file,
         Setting::Final,
         0,
         2,
+        distributed_wh,
+        periodised_wh,
+        differences_wh,
+        losses_wh,
+    );
+    match answered {
+        Answer::Refused(x, place) => refused(x, place),
+        Answer::Done => amounts_case(differences_wh, &[500000i64, 1200000]),
+    }
+}
+
+fn priced_case(file: &[u8]) {
+    let mut distributed_wh = [0i64; 4];
+    let mut periodised_wh = [0u32; 4];
+    let mut differences_wh = [0i64; 4];
+    let mut losses_wh = [0i64; 2];
+    priced_later(
+        file,
         &mut distributed_wh[0..4],
         &mut periodised_wh[0..4],
         &mut differences_wh[0..4],
         &mut losses_wh[0..2],
     );
-    match answered {
-        Answer::Refused(x, place) => refused(x, place),
-        Answer::Done => amounts_case(&differences_wh[0..4], &[500000i64, 1200000]),
-    }
 }
 
-// The examples of day 1 and of day 5; of day 1's, its volumes without its end; and 05 records for one of its two hours.
+// The examples of day 1 and of day 5, examples/volumes.month and examples/priced.month; a run that passes the month's end, outputs for another run, a file without
+// its end.
 fn quantities_first() {
     let volumes: &[u8] =
         b"\x01\x00\x09\x07\xe1\x02\x00\x02\x02\x01\x02\x30\x30\x30\x30\x30\x30\x30\x30\x30\x30\x30\x31\x37\x00\x00\x00\x00\x00\x00\x00\x03\x02\x30\x30\x30\x30\x30\x30\x30\x30\x30\x30\x30\x32\x34\x00\x00\x00\x00\x00\x00\x00\x01\x03\x00\x00\x01\x00\x00\x00\x00\x00\x00\x00\x08\x00\x00\x00\x00\x00\x00\x00\x00\x00\x00\x00\x00\x00\x00\x00\x00\x00\x00\x00\x00\x00\x00\x00\x00\x03\x00\x01\x01\x00\x00\x00\x00\x00\x00\x00\x04\x00\x00\x00\x00\x00\x00\x00\x00\x00\x00\x00\x00\x00\x00\x00\x00\x00\x00\x00\x00\x00\x00\x00\x00\x06\x00\x00\x01\x00\x00\x00\x00\x00\x00\x00\x09\x00\x00\x00\x00\x00\x00\x00\x00\x00\x00\x00\x00\x00\x00\x00\x00\x00\x00\x00\x00\x00\x00\x00\x00\x06\x00\x01\x01\x00\x00\x00\x00\x00\x00\x00\x06\x00\x00\x00\x00\x00\x00\x00\x00\x00\x00\x00\x00\x00\x00\x00\x00\x00\x00\x00\x00\x00\x00\x00\x00\x04\x00\x00\x00\x00\x02\x00\x00\x00\x08\x04\x01\x00\x01\x00\x02\x00\x00\x00\x01\x07\x00\x00\x00\x09";
@@ -161,7 +201,7 @@ fn quantities_first() {
     run_case(volumes, 1, 2);
     run_case(volumes, 0, 1);
     hour_case(&volumes[0..218], 0);
-    priced_later(volumes);
+    priced_case(volumes);
 }
 
 // The refusals of the second: 16, 4 of unequal lengths, of a price and of an hour, and 19 after it.
