@@ -27,6 +27,7 @@ use Rattle.residual.specs.Promised as OneHour
 use Rattle.residual_service.specs.Promised as Residual
 use Rattle.rules.specs.Plan.{LongReading}
 use Rattle.setting.specs.Asked as Asked
+use Rattle.setting.specs.declared.Prices.{Prices}
 use Rattle.setting.specs.declared.Setting.{Setting}
 use Rattle.settle_c.specs.Promised as C
 use Rattle.statement_text.specs.Stating as Statement
@@ -86,9 +87,9 @@ pub record Records : Type 0 where
       (kind : ℕ) (numbers : List ℤ) (gln brpGln lent : List ℕ)
       → OneFitsWith (Plain.Promised kind numbers gln brpGln lent)
 
--- A WHOLE FILE under a setting: its reading, its settlement, the hours of a run, its two texts
+-- A WHOLE FILE, with its prices needed or not, or under a setting: its reading, its settlement, the hours of a run, its two texts
 pub record WholeFiles : Type 0 where
-  pub month-file-read : (setting : Setting) (file : List ℕ) → OneFits (File.Promised setting file)
+  pub month-file-read : (prices : Prices) (file : List ℕ) → OneFits (File.Promised prices file)
   pub month-settle : (setting : Setting) (file : List ℕ) (lent : Month.Outputs) → OneFitsWith (λ r. Month.Kept setting file r lent)
   pub month-run-hours :
       (setting : Setting) (file : List ℕ) (start hours : ℕ) (lent : RunOutputs)
