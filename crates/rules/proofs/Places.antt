@@ -1,7 +1,7 @@
 -- Where each record of a file stands: a file that is read has its heading at 0, then the parties, the fixed hours, the refixed hours and the prices, each kind
 -- at a fixed distance, and the readings, each behind the bytes of those before it; the parties likewise, whose records are all of one length (W5). What has been
 -- read so far takes up as many bytes as its records have.
-use mathlib.Core.Bool.{Bool, true, false, _&&_, _||_}
+use mathlib.Core.Bool.{Bool, true, false, _&&_}
 use mathlib.Core.List.{List, [], _∷_, _++_}
 use mathlib.Core.Logic.{_⊎_, inl, inr, ⊎-elim}
 use mathlib.Core.Path.{_≡_, refl, sym, _∙_, ap, subst}
@@ -9,7 +9,7 @@ use Prim.Native.Nat.{ℕ, zero, suc, _+_, _-_, _*_, _≤_, _<_}
 use native.Mathlib.Nat.{eq-zero-or-pos, eq-or-lt-of-le}
 use native.Mathlib.Omega.{arith}
 use borrow.Author.Tests.{ltb-true, leb-true, eqb-true, eq-eqb}
-use lib.Dec.{eqb, leb, ltb}
+use lib.Dec.{eqb, ltb}
 use lib.IntN.{ℤ}
 use lib.ListN.{length, getD, drop, length-append, length-drop, List·getD-append}
 use lib.Seq.{drop-drop, getD-at}
@@ -273,7 +273,9 @@ module _ (file : List ℕ) (m : MonthFile) (s : Sound m) (offset : ℕ) (p : Pla
         parties = p .parties;
         fixed = p .fixed;
         refixed = p .refixed;
-        prices = row-more file (priceOffset (m .parties) (H m) (length (m .refixed))) price (m .prices) x (p .prices) (at-its-place there price (eq-eqb hour (length (m .prices)) (is-due .in-turn)) here);
+        prices =
+            row-more file (priceOffset (m .parties) (H m) (length (m .refixed))) price (m .prices) x (p .prices)
+            (at-its-place there price (eq-eqb hour (length (m .prices)) (is-due .in-turn)) here);
         readings = row-none file (readingOffset (m .parties) (H m) (length (m .refixed)) (length (m .prices ++ (x ∷ []))) (m .readings)) asReading (m .readings) no-more;
       }
 
@@ -286,7 +288,8 @@ module _ (file : List ℕ) (m : MonthFile) (s : Sound m) (offset : ℕ) (p : Pla
       let everyone : length (m .parties) ≡ P m = all-parties (s .counts) all some in
       let here-is : offset ≡ readingOffset (m .parties) (H m) (length (m .refixed)) (length (m .prices)) (m .readings) (length (m .readings)) = omega (arith, p .so-far some) in
       let moved : (k : ℕ) → k ≤ length (m .readings)
-      → readingOffset (m .parties) (H m) (length (m .refixed)) (length (m .prices)) (m .readings) k ≡ readingOffset (m .parties) (H m) (length (m .refixed)) (length (m .prices)) (m .readings ++ (x ∷ [])) k =
+      → readingOffset (m .parties) (H m) (length (m .refixed)) (length (m .prices)) (m .readings) k
+      ≡ readingOffset (m .parties) (H m) (length (m .refixed)) (length (m .prices)) (m .readings ++ (x ∷ [])) k =
       λ k b. omega (arith, same-sizes reading (m .readings) x k b) in
       record {
         at-start = λ e. absurd (omega arith);

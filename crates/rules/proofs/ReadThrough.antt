@@ -249,7 +249,8 @@ the-end-here : (prices : Prices) (m : MonthFile) (n : ℕ) (bytes : List ℕ) (r
 unfolding isEnd checks
 the-end-here prices m n bytes (end count) left e here =
     let same : count ≡ n = eqb-true count n (unless-exactly (eqb count n) _ _ .0 (here .none-refuses .0)) in
-    right-end (subst (λ (k : ℕ). due m (end k) ≡ true) same (here .is-due)) (subst (λ (k : ℕ). pricedFor prices m (end k) ≡ true) same (here .is-priced)) left (here .bytes-are ∙ ap (λ (k : ℕ). recordBytes (end k) ++ left) same)
+    right-end (subst (λ (k : ℕ). due m (end k) ≡ true) same (here .is-due)) (subst (λ (k : ℕ). pricedFor prices m (end k) ≡ true) same (here .is-priced)) left
+    (here .bytes-are ∙ ap (λ (k : ℕ). recordBytes (end k) ++ left) same)
 the-end-here prices m n bytes (heading h) left e here = absurd (true-not-false (sym e))
 the-end-here prices m n bytes (party p) left e here = absurd (true-not-false (sym e))
 the-end-here prices m n bytes (fixedHour hour f) left e here = absurd (true-not-false (sym e))

@@ -8,14 +8,12 @@ use native.Mathlib.Omega.{arith}
 use borrow.Author.Tests.{leb-true, le-leb}
 use lib.Dec.{leb}
 use lib.ListN.{length, drop}
-use Rattle.rules.specs.Limits.{longestFile}
 use Rattle.rules.specs.Month.{refixedVerdict, monthChecks, monthVerdict}
 use Rattle.rules.specs.MonthFile.{MonthFile, nothingYet, allPriced, pricedFor, with, recordChecks, isEnd, closed, onward, readOn, readMonth}
 use Rattle.rules.specs.Record.{Record, heading, party, fixedHour, reading, price, refixedHour, end, bodyLength, recordAt}
 use Rattle.rules.specs.Refusals.{fileFault, accepted, Verdict, Answer, given, refusal, unless, andThen, first}
-use Rattle.rules.specs.Setting.{Setting, final, provisional, Prices, needed, optional}
+use Rattle.rules.specs.Setting.{final, provisional, Prices, needed, optional}
 use Rattle.rules.specs.Statement.{Per, answeredStatement, judgedStatement, statementPer}
-use Rattle.rules.specs.Words.{within}
 use Rattle.rules.proofs.Refusals.{accepted-exactly, unless-exactly}
 use Rattle.rules.proofs.Whole.{went-on, of-the-right-length}
 
@@ -34,7 +32,8 @@ past : (ends : Bool) (a b c : Answer MonthFile) {m : MonthFile} → (b ≡ given
 past true a b c on e = e
 past false a b c on e = on e
 
-read-on-alike : (prices : Prices) (more : ℕ) (bytes : List ℕ) (n : ℕ) (m : MonthFile) {m′ : MonthFile} → readOn prices more bytes n m ≡ given m′ → readOn optional more bytes n m ≡ given m′
+read-on-alike : (prices : Prices) (more : ℕ) (bytes : List ℕ) (n : ℕ) (m : MonthFile) {m′ : MonthFile} → readOn prices more bytes n m ≡ given m′
+    → readOn optional more bytes n m ≡ given m′
 unfolding readOn recordChecks onward
 read-on-alike prices zero bytes n m e = e
 read-on-alike prices (suc more) [] n m e = e

@@ -6,8 +6,8 @@ use mathlib.Core.Logic.{_↔_}
 use mathlib.Core.Path.{_≡_, refl, sym, _∙_, ap, ap₂, subst}
 use Prim.Native.Nat.{ℕ, suc, _+_, _≤_, _<_}
 use native.Mathlib.Omega.{arith}
-use borrow.Author.Tests.{leb-true, le-leb, eq-eqb}
-use lib.Dec.{eqb, leb}
+use borrow.Author.Tests.{leb-true, le-leb}
+use lib.Dec.{leb}
 use lib.ListN.{length, length-append}
 use Rattle.rules.specs.Limits.{longestFile}
 use Rattle.rules.specs.MonthFile.{MonthFile, nothingYet, H, with, pricesThere, due, pricedFor, readMonth, closed}
@@ -40,7 +40,11 @@ well-formed-is-read prices m w =
       rest = recordBytes (end n);
       split = refl;
       all-pass = t .pass 0;
-      stop = right-end (subst (λ (x : MonthFile). due x (end (0 + n)) ≡ true) (sym (t .gives)) is-due) (subst (λ (x : MonthFile). pricedFor prices x (end (0 + n)) ≡ true) (sym (t .gives)) priced) [] the-end;
+      stop =
+          right-end (subst (λ (x : MonthFile). due x (end (0 + n)) ≡ true) (sym (t .gives)) is-due)
+          (subst (λ (x : MonthFile). pricedFor prices x (end (0 + n)) ≡ true) (sym (t .gives)) priced)
+          []
+          the-end;
     } in
     answer-of-course prices (fileOf m) fits c ∙ ap given (t .gives)
 
@@ -96,7 +100,8 @@ what-is-read-is-well-formed prices file m small is =
     let held : Every ReadingHeld (m .readings) =
     subst (λ (x : MonthFile). Every ReadingHeld (x .readings)) (stopped .0) (held-after prices (c .passed) nothingYet 0 nothing-held (c .all-pass)) in
     let short : length file ≤ longestFile = within-is 1 longestFile (length file) fits .1 in
-    (record { whole = what-is-read-is-whole prices file is; priced = what-is-read-is-priced prices file is; weights = held; not-too-long = subst (λ (bytes : List ℕ). length bytes ≤ longestFile) same short }, same)
+    let fits-still : length (fileOf m) ≤ longestFile = subst (λ (bytes : List ℕ). length bytes ≤ longestFile) same short in
+    (record { whole = what-is-read-is-whole prices file is; priced = what-is-read-is-priced prices file is; weights = held; not-too-long = fits-still }, same)
 
 -- ACCEPTED EXACTLY WHEN WELL FORMED
 pub read-exactly : (prices : Prices) (file : List ℕ) (m : MonthFile) → Bytes file → (readMonth prices file ≡ given m) ↔ (WellFormed prices m × (file ≡ fileOf m))

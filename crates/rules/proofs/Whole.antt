@@ -16,7 +16,8 @@ use Rattle.rules.specs.Accepted.{NoneRefuses}
 use Rattle.rules.specs.Flows.{Flows, flowsInRange, silentIsZero}
 use Rattle.rules.specs.Gln.{validGln, rises, digitsOnto}
 use Rattle.rules.specs.Limits.{greatestArea, earliestYear, latestYear, monthsOfAYear, mostHours, mostParties, greatestShare, greatestEnergy, greatestPrice, longestFile}
-use Rattle.rules.specs.MonthFile.{MonthFile, nothingYet, H, P, hoursThere, pricesThere, due, allPriced, pricedFor, afterTheLast, alikeAfter, risesAfter, recordChecks, with, isEnd, closed, onward, readOn, readMonth}
+use Rattle.rules.specs.MonthFile.{MonthFile, nothingYet, H, P, with, hoursThere, pricesThere, due, allPriced, pricedFor, afterTheLast, alikeAfter, risesAfter}
+use Rattle.rules.specs.MonthFile.{recordChecks, isEnd, closed, onward, readOn, readMonth}
 use Rattle.rules.specs.Record.{Heading, Party, Reading, Record, heading, party, fixedHour, reading, price, refixedHour, end, bodyLength, recordAt}
 use Rattle.rules.specs.Record.{brpGln, partyKindOf, inFile, headingInRange, hourInRange, checks}
 use Rattle.rules.specs.Refusals.{fileFault, Verdict, accepted, refused, Answer, given, refusal, first}
@@ -538,7 +539,8 @@ past-one prices m s (refixedHour hour f) n after rest d priced s′ ih e = ih s�
 past-one prices m s (end count) n after rest d p s′ ih e =
     subst (λ (x : MonthFile). Whole x × Priced prices x) (closed-gives m n after e) (at-the-end m s count d, priced-end prices m count p)
 
-read-on-whole : (prices : Prices) (more : ℕ) (bytes : List ℕ) (n : ℕ) (m : MonthFile) → Sound m → {m′ : MonthFile} → readOn prices more bytes n m ≡ given m′ → Whole m′ × Priced prices m′
+read-on-whole : (prices : Prices) (more : ℕ) (bytes : List ℕ) (n : ℕ) (m : MonthFile) → Sound m → {m′ : MonthFile} → readOn prices more bytes n m ≡ given m′
+    → Whole m′ × Priced prices m′
 unfolding readOn recordChecks
 read-on-whole prices zero bytes n m s e = absurd (given-not-refusal e)
 read-on-whole prices (suc more) [] n m s e = absurd (given-not-refusal e)
