@@ -1,5 +1,7 @@
 // What a call answers: done, or refused by name at a place (01 "Refusal numbers"). The paper's number of each refusal stands in `rules`, once; `said`
 // of specs/Said.antt reads an answer as the verdict of the rules.
+#![tactic(auto)]
+
 ghost use Rattle.answer.specs.Promised.{NumberPromised, EachAtMostPromised, WithinPromised, EachWithinPromised};
 
 // The refusals, in the order of the paper's table, and then those that came with the requests (02).

@@ -1,5 +1,7 @@
 // An answer as the one number that C gets (include/sayarimu.h): 0 for accepted, else number + 256 x place (01 "Refusal numbers": "A refusal returns its
 // number and a place").
+#![tactic(auto)]
+
 ghost use Rattle.std.specs.Prelude.{◌≡◌};
 ghost use Rattle.answer_code.specs.Coded.{number_at, Promised};
 

@@ -1,6 +1,8 @@
 // The largest-remainder rule alone (01 "Distributed consumption": "go one each to the parties with the largest remainders; of equal remainders the lower party
 // number comes first"; 02, W2: "one each to the largest remainders, lower party number first"), over any remainders and any count to be handed out. Nothing here
 // knows of shares, of W, of hours or of øre: `distribute` and `invoice` do.
+#![tactic(auto)]
+
 ghost use Rattle.std.specs.Prelude.{◌≡◌, ◌≤◌};
 ghost use Rattle.apportion.specs.Filled.{Filled};
 ghost use Rattle.apportion.specs.Tests.{below_number, same_number, before_number};
@@ -114,7 +116,7 @@ fn cut(rest: &[u64; 64], n: usize, v: u64, spare: u64) -> usize
 // "The Wh still left over go one each to the parties with the largest remainders": 1 for each of the `left` of n with the largest `rest`, else 0. They are
 // those that come before a place in that order, which is found without comparing each with all. Any remainders serve, of Wh, of øre or of anything else, and
 // any count: where there are fewer than `left`, each has one.
-pub fn one_each_holds(rest: &[u64; 64], n: usize, left: u64) -> [u64; 64]
+pub fn one_each(rest: &[u64; 64], n: usize, left: u64) -> [u64; 64]
     requires { n ≤ most_parties }
     ensures { Filled 0 (one_each n (at rest.now) left) n result }
 {

@@ -1,5 +1,7 @@
 // The curve of a month (01 "From flows to the curve"; H2 1.13): the curve number of each hour. The service takes any input; what it refuses, in which order and
 // at which place stands in `curve_checks` of the rules.
+#![tactic(auto)]
+
 ghost use Rattle.std.specs.Prelude.{◌≡◌, ◌<◌, ◌/◌, length};
 ghost use Rattle.answer.specs.Said.{said};
 ghost use Rattle.curve_numbers.specs.Passes.{curve_shape, CurveReady};

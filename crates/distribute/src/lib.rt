@@ -1,6 +1,8 @@
 // The carries of all parties (01 "Distributed consumption"; H2 5.3), handed on from hour to hour. A party's running sum is share x R / W rounded down, and the
 // Wh left over go one each to the largest remainders (`apportion`). What is carried is the remainder of that division, so no product passes 64 bits. The
 // service over a whole span is `distribute_service`.
+#![tactic(auto)]
+
 ghost use Rattle.std.specs.Prelude.{◌≡◌, ℕ, ◌+◌, ◌≤◌, ◌<◌, pos, length};
 ghost use Rattle.answer.specs.Said.{said};
 ghost use Rattle.apportion.specs.Filled.{Filled};

@@ -1,5 +1,7 @@
 // The distribution service (01 "Distributed consumption"; H2 5.3): the residuals of a span of hours distributed on parties by their shares. It takes any
 // input; what it refuses, in which order and at which place stands in `distribution_checks` of the rules. `distribute` has the hour and its carries.
+#![tactic(auto)]
+
 ghost use Rattle.std.specs.Prelude.{◌≡◌, ◌*◌, eqb, length};
 ghost use Rattle.answer.specs.Said.{said};
 ghost use Rattle.distribute_service.specs.Promised.{Promised};

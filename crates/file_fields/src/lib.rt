@@ -2,6 +2,8 @@
 // record that stands there by its kind's own function of `record`: an accepted file has that kind there. They ask the sections that `file_sections::read`
 // gave for this file, and a place within them; to refuse by themselves they would have to read the file again. A reading is of one of two lengths, so it is
 // asked for by the byte where it stands; the parties of a file all have the same length, which the sections tell.
+#![tactic(auto)]
+
 ghost use Rattle.std.specs.Prelude.{◌≡◌, ◌+◌, ◌*◌, ◌≤◌, length, drop};
 ghost use Rattle.file_fields.specs.Fields.{FixedAsked, RefixedAsked, PriceAsked, ReadingAsked, PartyAsked, FixedIs, RefixedIs, PriceIs, ReadingIs, ShareIs, GlnIs, BrpGlnIs, BrpNumberIs};
 

@@ -1,6 +1,8 @@
 // "A reader goes through the file record by record" (01 "Expected forms by place"): "A struct holds the file slice and place; two or three thin functions by
 // hand call a covered function on slice and cursor." The borrow checker covers no function over such a struct, so `new`, `next` and `next_at` are proved by
 // hand; the work stands in `step_at`, which takes a plain slice and is covered. `file_sections` goes through a file by `next_at`.
+#![tactic(auto)]
+
 ghost use Rattle.std.specs.Prelude.{◌≡◌, drop};
 ghost use Rattle.file_step.specs.Walk.{Steppable, Stepped};
 

@@ -1,5 +1,7 @@
 // A whole month file, read record by record (01 "The month file" and "Refusal numbers") to its sections or to the first refusal. One pass over the bytes:
 // `file_reader` goes from record to record, and `file_step` judges each before the next is looked at. What stands in a section is read by `file_fields`.
+#![tactic(auto)]
+
 ghost use Rattle.std.specs.Prelude.{◌≡◌, ◌+◌, ◌*◌, ◌≤◌};
 ghost use Rattle.file_step.specs.Walk.{Few};
 ghost use Rattle.file_sections.specs.Walk.{sections_in, Promised};

@@ -1,5 +1,7 @@
 // One record of a month file, judged where the reading stands (01 "The month file" and "Refusal numbers"): each record is decoded once and judged by 2, 1, 3,
 // 4, 5, 11, 12, 15. What is kept of the records before is where the reading stands, a struct by value. `file_sections` reads the whole file.
+#![tactic(auto)]
+
 ghost use Rattle.std.specs.Prelude.{◌≡◌, ◌≤◌};
 ghost use Rattle.record.specs.Record.{glns_in};
 ghost use Rattle.file_step.specs.Walk.{start_of, hours_in, after_prices_in, due_in, with_in, Few, Steppable, Stepped, moved_in, risen_in, counted_in, judged_in};

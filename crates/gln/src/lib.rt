@@ -1,5 +1,7 @@
 // The GLN of a party (01 "The month file": "GLN 13 ASCII digits"; "The GLN's last digit makes the sum of all digits, weighted 1, 3, 1, 3 .. from the
 // right, a multiple of 10"): its test, its number, and the part of a file that holds it.
+#![tactic(auto)]
+
 ghost use Rattle.std.specs.Prelude.{◌≡◌};
 ghost use Rattle.gln.specs.Promised.{CheckPromised, PartAtPromised};
 ghost use Rattle.rules.specs.Gln.{weight_of_position};

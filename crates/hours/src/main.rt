@@ -4,6 +4,8 @@
 // What is proved of it: it is safe and ends, given that each read and write returns; and the three parts that it makes for printing, one after the other, are the final
 // report of the bytes read, and of an input that is too long that of any bytes so long. That the bytes read are those of standard input, and that the parts are handed over in
 // this order and arrive, no contract can say: those of `libc::read` and `libc::write` speak of the count of one call alone. tests/streams tries it.
+#![tactic(auto)]
+
 ghost use Rattle.std.specs.Prelude.{length, ◌≡◌};
 ghost use Rattle.hours.specs.Printed.{Within, printed};
 ghost use Rattle.report_text.specs.Lines.{Roomy, first_room, rest_room, parties_room};

@@ -1,5 +1,6 @@
 // "Numbers that bound it" (01): every limit of the paper as a constant, under its sentence, by the name that it has in `rules/specs/Limits`. The code has its
 // limits from here and nowhere else as a figure; a place that needs another width casts (`limits::MOST_HOURS as u16`). No code.
+#![tactic(auto)]
 
 // "Area 1..999."
 pub const GREATEST_AREA: u16 = 999;

@@ -1,6 +1,8 @@
 // The series of a month that a file is read as (01 "From flows to the curve" and "Refusal numbers"): its load shares, the fixed and refixed residuals with 7, 8
 // and 9, the curve's beginnings, and 18 and 13 by reading (02, W3). What goes through the file does so by the readers of `file_fields`, so it asks that the file
 // is accepted.
+#![tactic(auto)]
+
 ghost use Rattle.std.specs.Prelude.{true, ◌≡◌, suc, ◌-◌, ◌≤◌, ◌<◌, length};
 ghost use Rattle.answer.specs.Said.{said};
 ghost use Rattle.file_sections.specs.Walk.{Accepted};

@@ -1,5 +1,7 @@
 // The periodised consumption of all parties in a window of hours (01 "Periodised consumption"; H2 6.2). The readings are gone through once for a window; of
 // each the run of its hours that lies in it is worked out, what the hours before that run weigh being a difference of two of the curve's beginnings.
+#![tactic(auto)]
+
 ghost use Rattle.std.specs.Prelude.{◌≡◌, ◌+◌, ◌-◌, ◌*◌, ◌^◌, ◌≤◌, ◌<◌, max, min, length};
 ghost use Rattle.month_window.specs.Window.{Asked, Window, Taken, Added, no_wh};
 ghost use Rattle.record.specs.Record.{reading_of};

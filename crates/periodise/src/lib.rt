@@ -1,5 +1,7 @@
 // Periodised consumption (01 "Periodised consumption"; H2 6.2): the core. A reading is spread over its hours by the curve. The reading's part of the curve is handed
 // over as a slice of its own, with the run of its hours that is asked for, so that a run costs no more than its own hours.
+#![tactic(auto)]
+
 ghost use Rattle.std.specs.Prelude.{◌≡◌, ◌*◌, ◌%◌, ◌<◌, ◌≤◌, max, length};
 ghost use Rattle.periodise.specs.Growth.{grown_from, Part, Turning, Turned, Room};
 ghost use Rattle.rules.specs.Limits.{greatest_energy, greatest_whole};

@@ -1,5 +1,7 @@
 // The periodisation service (01 "Periodised consumption" and "Refusal numbers"): E and the weights alone, spread by the core. C and the tests call it; the month
 // goes to the core itself.
+#![tactic(auto)]
+
 ghost use Rattle.std.specs.Prelude.{◌≡◌, length};
 ghost use Rattle.answer.specs.Said.{said};
 ghost use Rattle.periodise.specs.Growth.{Within};

@@ -1,6 +1,8 @@
 // The planner of a reading over months (02, W3): "a planner makes them" (the 08 records) "from E, a of the first month, b of the last, the party's number in each
 // and the months' curves". The curves come as one list, with the hours of each month beside it; the records come back by value, so nothing is lent. What it
 // refuses, and in which order, stands in `plan_checks` of the rules.
+#![tactic(auto)]
+
 ghost use Rattle.std.specs.Prelude.{◌≡◌};
 ghost use Rattle.answer.specs.declared.Answer.TheVariants.{Refused};
 ghost use Rattle.plan.specs.Planning.{of_all, no_reading, MakingAsked, Nothing};

@@ -1,5 +1,7 @@
 // What the planner of a reading over months refuses of what is handed to it (02, W3): the lists by their lengths and ranges (4), the span (11), E (12) and the
 // curves (10), in the order of `handed_checks` of the rules; 13 comes after them (`plan`). And of each month the reading's part, which the records are made of.
+#![tactic(auto)]
+
 ghost use Rattle.std.specs.Prelude.{◌&&◌, [], ◌≡◌, ◌≤◌, ◌<◌, eqb, length};
 ghost use Rattle.answer.specs.Said.{said};
 ghost use Rattle.plan_checks.specs.Handed.{handed, of_parties, of_span, of_curves, PartsInside};

@@ -1,5 +1,7 @@
 // The planner for whoever lends the lists, as C does (`settle_c`): of the record of each month a, b, the weight before it and the weight of the whole reading,
 // each number into a list of its own. 16 is told before what the planner refuses, `lent_plan_checks` of the rules.
+#![tactic(auto)]
+
 ghost use Rattle.std.specs.Prelude.{◌&&◌, ◌≡◌, eqb};
 ghost use Rattle.plan_checks.specs.Handed.{handed};
 ghost use Rattle.plan_service.specs.Planned.{PlacesFor, NumbersOf};

@@ -1,5 +1,7 @@
 // One record of the month file (01 "The month file"): its kinds and body lengths, and its fields read. "One byte of kind, then a body. Numbers are
 // big-endian; net supply and price are two's complement." `record_rule` has the rule of its fields, `record_write` its writing.
+#![tactic(auto)]
+
 mod fields;
 pub mod kind;
 mod table;

@@ -1,5 +1,7 @@
 // The bytes of each kind of record (01 "The month file"), at the start of a part: its kind and then its fields, each in its width. `record_write` has the
 // writer, which judges a record and the part before they are written.
+#![tactic(auto)]
+
 mod fields;
 
 ghost use Rattle.std.specs.Prelude.{◌≡◌, ◌∷◌, ◌≤◌, length};

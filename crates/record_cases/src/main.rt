@@ -1,5 +1,7 @@
 // Cases of one record, run by the gate (01 "The month file"): GS1's example and two GLNs of the paper, each refusal of the reader alone and of the writer,
 // a net supply of -8,000,000,000 Wh there and back, and a party with its BRP (02, W5). One line for each.
+#![tactic(auto)]
+
 use answer::Refusal;
 use gln::Gln;
 use record::{Brp, Flows, Heading, Over, Reading, Record};

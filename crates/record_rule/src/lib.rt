@@ -1,5 +1,7 @@
 // The rule of a record's fields (01 "Numbers that bound it"), and one record read alone by it (01 "The month file"): "One record can also be read alone, by
 // 2, 1 and then the same rules". `record` has the records and their fields read, `record_write` their writing by the same rule.
+#![tactic(auto)]
+
 mod rule;
 
 ghost use Rattle.record_rule.specs.Promised.{FaultPromised, PartFaultPromised, ReadAlonePromised};

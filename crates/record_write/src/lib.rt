@@ -1,5 +1,7 @@
 // The record writer (01 "The month file"): "The record writer takes one record's fields and a lent part". A record is judged by `record_rule`, and written in
 // the bytes of its kind by `record_bytes`.
+#![tactic(auto)]
+
 ghost use Rattle.std.specs.Prelude.{◌≡◌, ◌+◌, ◌≤◌, length};
 ghost use Rattle.std.proofs.lemmas.List.Edits.{sets};
 ghost use Rattle.record.specs.Record.{record_of, over_of, reading_of, glns};

@@ -1,6 +1,8 @@
 // How far each party's running sum is from its exact share, hour by hour (00 "Has any supplier been pushed the same way all month?"): the smallest and the
 // largest so far, in W-ths of a Wh. The carries of an hour tell the distance without the running sum: a party that has one of the Wh left over is W less its
 // remainder above, another its remainder below.
+#![tactic(auto)]
+
 ghost use Rattle.std.specs.Prelude.{◌≡◌, ℕ, ◌≤◌, ◌<◌, pos};
 ghost use Rattle.apportion.specs.Filled.{Filled};
 ghost use Rattle.distribute.specs.Good.{Good};

@@ -1,5 +1,7 @@
 // The lines of the reviewer's report as bytes in a lent buffer (00, her three questions; the rules' HoursReport): a line for each hour and a line for each
 // party. Each function writes from a place on and answers the place after what it wrote.
+#![tactic(auto)]
+
 ghost use Rattle.std.specs.Prelude.{◌++◌, ◌+◌, ◌≤◌, length};
 ghost use Rattle.report_lines.specs.HourText.{hour_text};
 ghost use Rattle.report_lines.specs.Rooms.{status_word_room, hour_statuses_room, series_room, hour_room, fraction_room, distances_room};

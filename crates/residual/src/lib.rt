@@ -1,5 +1,7 @@
 // The residual of an hour, judged, and of two series the applied one (01 "From flows to the curve"). `residual_service` has the residuals of a whole series as a
 // call alone, `curve_numbers` the curve.
+#![tactic(auto)]
+
 ghost use Rattle.std.specs.Prelude.{◌≡◌};
 ghost use Rattle.rules.specs.Flows.{residual};
 ghost use Rattle.residual.specs.Hour.{flows_here, WithinLimits};

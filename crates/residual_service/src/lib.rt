@@ -1,5 +1,7 @@
 // The residual of a whole series (01 "From flows to the curve"): five lists of an hour's status and flows, checked list by list and then hour by hour. The
 // service takes any input; what it refuses, in which order and at which place stands in `residual_checks` of the rules. `residual` has the one hour.
+#![tactic(auto)]
+
 ghost use Rattle.std.specs.Prelude.{◌≡◌, length};
 ghost use Rattle.answer.specs.Said.{said};
 ghost use Rattle.rules.specs.Flows.{silent_is_zero, verdict_of};

@@ -1,5 +1,7 @@
 // Cases of the two operations of W6 ("Quantities first, amounts later"), run by the gate: the first on the example of day 1, which has no prices, and on that of
 // day 5, over both hours and over the last alone, with refusals of its own; then the second on the differences that the first gave. One line for each.
+#![tactic(auto)]
+
 use answer::{Answer, Refusal};
 use setting::Setting;
 

@@ -1,5 +1,7 @@
 // The hours of a run, walked and written (02, W6 "Quantities first, amounts later"): of a month that nothing refuses, every party's distributed, periodised and
 // difference in each hour of a run, and the loss, into lent outputs. No price is looked at, nor any amount made.
+#![tactic(auto)]
+
 ghost use Rattle.std.specs.Prelude.{◌≡◌, ◌+◌, ◌≤◌, ◌<◌, length, set};
 ghost use Rattle.distribute.specs.Written.{PutOn};
 ghost use Rattle.run_hours.specs.Running.{RunReady, RunLent, HourLent, HourWritten, RunIs};

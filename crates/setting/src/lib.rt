@@ -1,6 +1,8 @@
 // The setting of a call on a whole file: what the caller says of the month, final or provisional (02, W1 "Do not settle silently on fixed figures"), with the
 // refusal of a final run of a month that has no refixed series; and whether its prices are needed (02, W6 "Quantities first, amounts later"), which is handed by
 // value from the call to the reading of each record.
+#![tactic(auto)]
+
 ghost use Rattle.setting.specs.Asked.{Promised};
 
 use answer::{Answer, Refusal};

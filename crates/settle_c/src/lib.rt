@@ -1,5 +1,7 @@
 // The services of settlement as functions that C calls (include/sayarimu.h). Each takes what its service takes, promises what it promises, and answers 0
 // for accepted, else number + 256 x place (01 "Refusal numbers": "A refusal returns its number and a place, and the call has written nothing.").
+#![tactic(auto)]
+
 ghost use Rattle.plan_checks.specs.Handed.{handed};
 ghost use Rattle.settle_c.specs.Promised.{ResidualPromised, CurvePromised, DistributionPromised, PeriodisationPromised, ReconciliationPromised, AmountsPromised, InvoicePromised, PlanPromised};
 

@@ -4,6 +4,8 @@
 // long; and the line that is printed of such an input is 1 at 0. What no contract can say, since that of
 // `libc::read` speaks of the count of one call alone: that the bytes of the buffer are those of standard input, all of them. tests/streams tries that on the running
 // programs. Each program writes by itself: of `io::write_all` nothing is promised, so nothing could be promised of a public function that calls it.
+#![tactic(auto)]
+
 ghost use Rattle.std.specs.Prelude.{length, take, ◌≡◌, ◌≤◌};
 ghost use Rattle.rules.specs.Limits.{longest_file};
 ghost use Rattle.standard_input.specs.Reading.{PieceWithin, Full, FullyRead, ended, ended_text};

@@ -4,6 +4,8 @@
 // What is proved of it: it is safe and ends, given that each read and write returns; and the text that it makes for printing is the final
 // statement of the bytes read, and of an input that is too long that of any bytes so long. That the bytes read are those of standard input, and that the text arrives, no
 // contract can say: those of `libc::read` and `libc::write` speak of the count of one call alone. tests/streams tries it.
+#![tactic(auto)]
+
 ghost use Rattle.std.specs.Prelude.{length, take, ◌≤◌};
 ghost use Rattle.rules.specs.Setting.{final};
 ghost use Rattle.rules.specs.Statement.{statement};

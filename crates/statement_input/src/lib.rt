@@ -1,5 +1,7 @@
 // The statement of an input, by how its reading ended, as bytes in a lent buffer: what the statement program, the preview program and the BRP program print. Each
 // says its own setting (02, W1: "The statement program keeps final as its setting; a preview program asks for provisional") and who has a line (W5).
+#![tactic(auto)]
+
 ghost use Rattle.std.specs.Prelude.{length, ◌≡◌, ◌≤◌};
 ghost use Rattle.rules.specs.Statement.{statement_per};
 ghost use Rattle.setting.specs.Asked.{asked};

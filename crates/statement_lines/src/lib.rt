@@ -1,5 +1,7 @@
 // The lines of the statement as bytes in a lent buffer (01 "The statement program"): the heading line, with what W1 of 02 ends it with, and a line of columns
 // for each party and for the total. Each function writes from a place on and answers the place after what it wrote.
+#![tactic(auto)]
+
 ghost use Rattle.std.specs.Prelude.{◌+◌, ◌≤◌, length};
 ghost use Rattle.rules.specs.Statement.{heading_text, columns_line};
 ghost use Rattle.statement_lines.specs.Parts.{area_month, counted, ending, name_energies, resulting};

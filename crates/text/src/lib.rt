@@ -1,5 +1,7 @@
 // Texts as bytes in a lent buffer (01 "The statement program"): numbers, words with their numbers, columns, and the refusal line. Each function writes from a
 // place on and answers the place after what it wrote.
+#![tactic(auto)]
+
 ghost use Rattle.std.specs.Prelude.{◌∷◌, [], ◌++◌, ◌≡◌, ◌+◌, ◌%◌, ◌≤◌, ◌<◌, nat_abs, length};
 ghost use Rattle.answer.specs.Said.{named};
 ghost use Rattle.rules.specs.Statement.{decimal, signed_decimal, digits_of_width, refusal_line};
