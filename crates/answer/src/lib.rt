@@ -5,7 +5,7 @@
 ghost use Rattle.answer.specs.Promised.{NumberPromised, EachAtMostPromised, WithinPromised, EachWithinPromised};
 
 // The refusals, in the order of the paper's table, and then those that came with the requests (02).
-#[derive(Drop)]
+#[derive(Clone, Copy)]
 pub enum Refusal {
     FileFault,
     UnknownKind,
@@ -29,7 +29,7 @@ pub enum Refusal {
 }
 
 // The answer of a call that gives nothing but what it writes.
-#[derive(Drop)]
+#[derive(Clone, Copy)]
 pub enum Answer {
     Done,
     Refused(Refusal, usize),

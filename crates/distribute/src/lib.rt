@@ -16,7 +16,7 @@ ghost use Rattle.rules.specs.Words.{at, sum};
 use answer::{Answer, Refusal};
 
 // The carries of all parties: what is handed on from hour to hour.
-#[derive(Drop)]
+#[derive(Clone, Copy)]
 pub struct Carries {
     pub parties: usize,
     // W, the sum of the shares
@@ -35,7 +35,7 @@ pub struct Carries {
 }
 
 // A division by W, party by party.
-#[derive(Drop)]
+#[derive(Clone, Copy)]
 struct Divided {
     quotient: [u64; 64],
     rest: [u64; 64],

@@ -9,7 +9,7 @@ ghost use Rattle.file_step.specs.Walk.{Steppable, Stepped};
 use file_step::{Step, Walk};
 
 // The file, and the place of the record that is next.
-#[derive(Drop)]
+#[derive(Clone, Copy)]
 pub struct Reader<'a> {
     pub file: &'a [u8],
     pub at: usize,

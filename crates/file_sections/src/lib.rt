@@ -13,7 +13,7 @@ use record::Heading;
 use setting::Prices;
 
 // An accepted file: its heading, how many refixed hours, prices and readings it has, how many bytes a party's record has, and where each section starts.
-#[derive(Drop)]
+#[derive(Clone, Copy)]
 pub struct Sections {
     pub heading: Heading,
     pub refixed: usize,
@@ -27,7 +27,7 @@ pub struct Sections {
     pub readings_at: usize,
 }
 
-#[derive(Drop)]
+#[derive(Clone, Copy)]
 pub enum MonthRead {
     Accepted(Sections),
     Refused(Refusal, usize),

@@ -13,7 +13,7 @@ use setting::Prices;
 
 // How far the reading of a file has come: whether its prices are needed, the records before, the heading (H and P are 0 until it is read), how many of each kind,
 // and of the last party the number of its GLN and its record's kind.
-#[derive(Drop)]
+#[derive(Clone, Copy)]
 pub struct Walk {
     pub prices_asked: Prices,
     pub records: usize,
@@ -28,7 +28,7 @@ pub struct Walk {
 }
 
 // What one record does: the reading goes on so many bytes further, ends, or is refused.
-#[derive(Drop)]
+#[derive(Clone, Copy)]
 pub enum Step {
     Next(Walk, usize),
     End,

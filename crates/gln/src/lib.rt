@@ -7,7 +7,7 @@ ghost use Rattle.gln.specs.Promised.{CheckPromised, PartAtPromised};
 ghost use Rattle.rules.specs.Gln.{weight_of_position};
 
 // A GLN's thirteen digits as one number, or the answer that it is none.
-#[derive(Drop)]
+#[derive(Clone, Copy)]
 pub enum Gln {
     Valid(u64),
     Invalid,

@@ -26,7 +26,7 @@ const REST_ROOM: usize = report_text::REST_ROOM;
 const PARTIES_ROOM: usize = report_text::PARTIES_ROOM;
 
 // How many bytes at the start of each buffer are printed, one part after the other.
-#[derive(Drop)]
+#[derive(Clone, Copy)]
 struct Parts {
     first: usize,
     rest: usize,

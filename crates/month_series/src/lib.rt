@@ -23,7 +23,7 @@ use record::{Flows, Over, Reading};
 use residual::Hour;
 
 // A series that was judged: how many of its hours are estimated, where each has its figure; or the first refusal and its hour.
-#[derive(Drop)]
+#[derive(Clone, Copy)]
 pub enum Judged {
     Figures(usize),
     Refused(Refusal, usize),

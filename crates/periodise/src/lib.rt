@@ -51,7 +51,7 @@ pub fn divisor_of(whole: u64) -> u64
 }
 
 // An hour's figure, and what is left of E x (weights so far) for the hours after it.
-#[derive(Drop)]
+#[derive(Clone, Copy)]
 pub struct Turn {
     pub wh: u32,
     pub left: u64,
@@ -70,7 +70,7 @@ pub fn hour_of(e: u64, weight: u32, left: u64, divisor: u64) -> Turn
 
 // A reading to be spread over a part of the curve: E over the weight of the whole reading, of which some lies before the part (none, where the reading begins
 // with it).
-#[derive(Drop)]
+#[derive(Clone, Copy)]
 pub struct Spread {
     pub e_wh: u64,
     pub before: u64,

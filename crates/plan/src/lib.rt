@@ -19,7 +19,7 @@ use record::{Over, Reading};
 
 // What the planner gives: its answer, and the records of the reading, one for each of its months: the first so many of thirteen. Behind them, and where it
 // refuses, stands no reading.
-#[derive(Drop)]
+#[derive(Clone, Copy)]
 pub struct Planned {
     pub answer: Answer,
     pub months: usize,

@@ -12,7 +12,7 @@ ghost use Rattle.record.specs.Promised.{BodyLengthPromised};
 ghost use Rattle.rules.specs.Record.{heading_kind, reading_kind, long_reading_kind, reading_kind_of, heading, reading, body_length, number_onto, signed, record_at};
 
 // "01 heading: area 2, year 2, month 1, hours H 2, parties P 1, loss carrier 1"
-#[derive(Drop)]
+#[derive(Clone, Copy)]
 pub struct Heading {
     pub area: u16,
     pub year: u16,
@@ -23,7 +23,7 @@ pub struct Heading {
 }
 
 // "status 1, net supply 8, production 8, hourly 8, flex 8", all in Wh
-#[derive(Drop)]
+#[derive(Clone, Copy)]
 pub struct Flows {
     pub status: u8,
     pub net_wh: i64,
@@ -33,21 +33,21 @@ pub struct Flows {
 }
 
 // Who is balance responsible for a party (02, W5): the party itself, or another that the record names by its GLN.
-#[derive(Drop)]
+#[derive(Clone, Copy)]
 pub enum Brp {
     Own,
     Named,
 }
 
 // What a reading's E lies over: this month, or several months (02, W3: "weight before this month 8, weight of the whole reading 8").
-#[derive(Drop)]
+#[derive(Clone, Copy)]
 pub enum Over {
     ThisMonth,
     ManyMonths(u64, u64),
 }
 
 // "04 reading: party 1, a 2, b 2, E 4", and W3's 08: one type for both
-#[derive(Drop)]
+#[derive(Clone, Copy)]
 pub struct Reading {
     pub party: u8,
     pub a: u16,
@@ -57,7 +57,7 @@ pub struct Reading {
 }
 
 // A record by kind. A party's GLN and its BRP's stand beside it, as parts of the file: here is whether it names a BRP, and its load share in kWh.
-#[derive(Drop)]
+#[derive(Clone, Copy)]
 pub enum Record {
     Heading(Heading),
     Party(Brp, u64),

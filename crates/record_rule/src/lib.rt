@@ -10,7 +10,7 @@ use answer::{Answer, Refusal};
 use record::{MOST_HOURS, MOST_PARTIES, Record};
 
 // What reading one record gives.
-#[derive(Drop)]
+#[derive(Clone, Copy)]
 pub enum Read {
     Given(Record),
     Refused(Refusal, usize),

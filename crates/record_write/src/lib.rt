@@ -13,7 +13,7 @@ use answer::{Answer, Refusal};
 use record::{Brp, MOST_HOURS, MOST_PARTIES, Over, Reading, Record, kind};
 
 // What writing one record gives: the number of bytes, or the refusal.
-#[derive(Drop)]
+#[derive(Clone, Copy)]
 pub enum Written {
     Bytes(usize),
     Refused(Refusal, usize),

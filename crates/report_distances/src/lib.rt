@@ -14,7 +14,7 @@ ghost use Rattle.rules.specs.Words.{at};
 use distribute::Carries;
 
 // The smallest and the largest distance of each party so far.
-#[derive(Drop)]
+#[derive(Clone, Copy)]
 pub struct Distances {
     pub smallest: [i64; 64],
     pub largest: [i64; 64],

@@ -11,7 +11,7 @@ ghost use Rattle.residual.specs.Promised.{JudgePromised, AppliedPromised};
 const GREATEST_RESIDUAL: i64 = limits::GREATEST_RESIDUAL_WH as i64;
 
 // What is decided of one hour: its residual in Wh, or why it has none.
-#[derive(Drop)]
+#[derive(Clone, Copy)]
 pub enum Hour {
     Figure(u32),
     Missing,

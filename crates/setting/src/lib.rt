@@ -7,14 +7,14 @@ ghost use Rattle.setting.specs.Asked.{Promised};
 
 use answer::{Answer, Refusal};
 
-#[derive(Drop)]
+#[derive(Clone, Copy)]
 pub enum Setting {
     Final,
     Provisional,
 }
 
 // W6: "A file for the first alone may have no 05 records; the statement program goes on refusing such a file with 3."
-#[derive(Drop)]
+#[derive(Clone, Copy)]
 pub enum Prices {
     Needed,
     Optional,

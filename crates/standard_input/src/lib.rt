@@ -15,7 +15,7 @@ use answer::Refusal;
 use libc::STDIN_FILENO;
 
 // What one read gives: bytes at the start of the part it was lent, the end of the input, or a failure.
-#[derive(Drop)]
+#[derive(Clone, Copy)]
 enum Piece {
     Bytes(usize),
     End,
@@ -23,7 +23,7 @@ enum Piece {
 }
 
 // How the reading ends: with the end of the input, with a byte more than the buffer holds, or with a failure.
-#[derive(Drop)]
+#[derive(Clone, Copy)]
 pub enum Ending {
     Whole,
     TooLong,
@@ -31,7 +31,7 @@ pub enum Ending {
 }
 
 // So many bytes of the buffer are filled, and how that ended. A count of its own: it is within the buffer however the reading ended.
-#[derive(Drop)]
+#[derive(Clone, Copy)]
 pub struct Input {
     pub filled: usize,
     pub ending: Ending,

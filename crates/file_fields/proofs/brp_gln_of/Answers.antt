@@ -1,0 +1,16 @@
+-- `file_fields::brp_gln_of` meets its contract: a party of either kind is read by its own function (`Readers`). Assumes nothing.
+use native.Mathlib.Omega.{arith}
+use Rattle.file_fields.proofs.Readers as R
+use Rattle.file_fields.proofs.brp_gln_of.Goals as goal
+
+pub from_record-part-requires : goal.from_record-part-requires
+from_record-part-requires c = R.party_room _ _ _ c.requires
+
+pub bounds-part-0 : goal.bounds-part-0
+bounds-part-0 c = omega (arith, R.party_byte _ _ _ c.requires c.from_record-part.ensures)
+
+pub returns-then-part-eq-BRP_PARTY : goal.returns-then-part-eq-BRP_PARTY
+returns-then-part-eq-BRP_PARTY c = R.named_brp_is _ _ _ c.requires c.from_record-part.ensures c.if-part-eq-BRP_PARTY.true c.brp_gln_in.ensures
+
+pub returns : goal.returns
+returns c = R.own_brp_is _ _ _ c.requires c.from_record-part.ensures c.if-part-eq-BRP_PARTY.false c.gln_in.ensures

@@ -1,0 +1,37 @@
+-- `month_prepare::prepare` meets its contract: the places are enough for every month, and what was lent stands first in them. Assumes nothing.
+use Prim.Native.Nat.{suc}
+use native.Mathlib.Omega.{arith}
+use Rattle.rules.specs.Limits.{most_hours}
+use Rattle.month_prepare.proofs.Preparing.{so_many, few_hours, few_refixed, stands, prepared}
+use borrow.Author.Rules.{rules}
+use Rattle.month_prepare.proofs.prepare.Goals as goal
+
+pub slice_bounds-fixed_wh-end : goal.slice_bounds-fixed_wh-end
+slice_bounds-fixed_wh-end c = omega (arith, so_many most_hours c.hour_places-fixed_wh.ensures, few_hours _ _ c.requires)
+
+pub slice_bounds-refixed_wh-end : goal.slice_bounds-refixed_wh-end
+slice_bounds-refixed_wh-end c = omega (arith, so_many most_hours c.hour_places-refixed_wh.ensures, few_refixed _ _ c.requires)
+
+pub slice_bounds-curve-end : goal.slice_bounds-curve-end
+slice_bounds-curve-end c = omega (arith, so_many most_hours c.hour_places-curve.ensures, few_hours _ _ c.requires)
+
+pub slice_bounds-beginnings-end : goal.slice_bounds-beginnings-end
+slice_bounds-beginnings-end c = omega (arith, so_many (suc most_hours) c.beginning_places-beginnings.ensures, few_hours _ _ c.requires)
+
+pub make-made-requires : goal.make-made-requires
+make-made-requires c =
+    record {
+      accepted = c.requires;
+      fixed_size = search rules;
+      refixed_size = search rules;
+      curve_size = search rules;
+      beginnings_size = search rules;
+    }
+
+pub returns : goal.returns
+returns c =
+    prepared _ _ c.requires c.make-made.ensures
+    (stands _ _ _ c.hour_places-fixed_wh.ensures (few_hours _ _ c.requires) c.fixed_wh-2-1.given)
+    (stands _ _ _ c.hour_places-refixed_wh.ensures (few_refixed _ _ c.requires) c.refixed_wh-2-1.given)
+    (stands _ _ _ c.hour_places-curve.ensures (few_hours _ _ c.requires) c.curve-2-1.given)
+    (stands _ _ _ c.beginning_places-beginnings.ensures (omega (arith, few_hours _ _ c.requires)) c.beginnings-2-1.given)

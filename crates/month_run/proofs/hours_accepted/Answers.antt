@@ -1,0 +1,19 @@
+-- `month_run::hours_accepted` meets its contract: refused before the hours, or what is made is what they are walked with. Assumes nothing.
+use mathlib.Core.Path.{sym, ◌∙◌, ap}
+use Rattle.answer.specs.Said.{said}
+use Rattle.month_run.proofs.Answers.{refused_file}
+use Rattle.month_walk.proofs.Chain.{file_verdict_lem, refused_before, hours_decide}
+use Rattle.rules.specs.Setting.{optional}
+use Rattle.month_run.proofs.hours_accepted.Goals as goal
+
+pub returns-in_default : goal.returns-in_default
+returns-in_default c =
+    let refuses = c.in_default.is in
+    refused_file _ _ _ _ _ _ _ _ refuses
+    (file_verdict_lem optional _ _ _ c.requires ∙ sym (refused_before c.prepare-prepared.ensures.is refuses) ∙ ap said refuses)
+
+pub run_made-requires : goal.run_made-requires
+run_made-requires c = record { accepted = c.requires; setting = c.args.setting; is = c.prepare-prepared.ensures; c = c.in-Done.is }
+
+pub returns : goal.returns
+returns c = c.run_made.ensures.under _ (file_verdict_lem optional _ _ _ c.requires ∙ hours_decide c.prepare-prepared.ensures.is c.in-Done.is)

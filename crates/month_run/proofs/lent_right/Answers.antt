@@ -1,0 +1,8 @@
+-- `month_run::lent_right` meets its contract: the same comparisons. Assumes nothing.
+use mathlib.Core.Path.{refl}
+use Rattle.month_run.specs.Run.{lent_right}
+use Rattle.month_run.proofs.lent_right.Goals as goal
+
+pub returns : goal.returns
+unfolding lent_right
+returns c = refl

@@ -1,0 +1,28 @@
+-- `month_run::run_made` meets its contract: refused by an hour or by what is asked, or written. Assumes nothing.
+use mathlib.Core.Path.{sym, ◌∙◌, ap}
+use Rattle.answer.specs.Said.{said}
+use Rattle.month_run.proofs.Answers.{refused_hour, refused_run, run_lent, written}
+use Rattle.rules.specs.Refusals.{accepted}
+use Rattle.month_run.proofs.run_made.Goals as goal
+
+pub all_judged-limited-requires : goal.all_judged-limited-requires
+all_judged-limited-requires c = c.requires
+
+pub returns-in_default : goal.returns-in_default
+returns-in_default c = refused_hour _ _ _ _ _ _ _ c.all_judged-limited.ensures c.in_default.is
+
+pub returns-in_default-right : goal.returns-in_default-right
+returns-in_default-right c =
+    let ready = c.requires in
+    refused_run ready.accepted ((sym c.all_judged-limited.ensures ∙ ap said c.in-Done.is)) _ _ _ _ _ _ c.asked-right.ensures c.in_default-right.is
+
+pub write-requires : goal.write-requires
+write-requires c =
+    let ready = c.requires in
+    let lent = run_lent ready.accepted ((sym c.all_judged-limited.ensures ∙ ap said c.in-Done.is)) _ _ _ _ _ _ _ c.asked-right.ensures c.in-Done-right.is in
+    (record { ready = ready; none_refuses = (sym c.all_judged-limited.ensures ∙ ap said c.in-Done.is) }, lent)
+
+pub returns : goal.returns
+returns c =
+    let ready = c.requires in
+    written ready.accepted ((sym c.all_judged-limited.ensures ∙ ap said c.in-Done.is)) _ _ _ _ _ _ c.asked-right.ensures c.in-Done-right.is c.write.ensures

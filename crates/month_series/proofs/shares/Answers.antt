@@ -1,0 +1,31 @@
+-- `month_series::shares` meets its contract: the beginning of the lent list is the load shares so far. Assumes nothing.
+use mathlib.Core.Path.{sym, ◌∙◌}
+use Rattle.file_sections.proofs.AcceptedFile.{parties_are}
+use Rattle.file_fields.proofs.FieldsRead.{share_read}
+use Rattle.rules.proofs.Loops.{fill_start, fill_next, fill_end}
+use native.Mathlib.Omega.{arith}
+use Rattle.month_series.proofs.shares.Goals as goal
+
+pub loop-i-init : goal.loop-i-init
+loop-i-init c = fill_start _ (c.requires.1 ∙ parties_are _ _ c.requires.0)
+
+pub load_share-requires : goal.load_share-requires
+load_share-requires c = record { accepted = c.requires.0; party = omega (arith, (c.loop-i.invariant.size ∙ sym (c.requires.1 ∙ parties_are _ _ c.requires.0)), c.requires.1) }
+
+pub offset_bounds-out-i : goal.offset_bounds-out-i
+offset_bounds-out-i c = omega (arith, (c.loop-i.invariant.size ∙ sym (c.requires.1 ∙ parties_are _ _ c.requires.0)))
+
+pub overflow_add-i : goal.overflow_add-i
+overflow_add-i c = omega (arith, (c.loop-i.invariant.size ∙ sym (c.requires.1 ∙ parties_are _ _ c.requires.0)))
+
+pub loop-i-smaller : goal.loop-i-smaller
+loop-i-smaller c = omega (arith, c.loop-i.invariant.size)
+
+pub loop-i-preserved : goal.loop-i-preserved
+loop-i-preserved c = fill_next c.loop-i.invariant (omega arith) (share_read _ _ c.requires.0 c.load_share.ensures)
+
+pub shape_of-out : goal.shape_of-out
+shape_of-out c = (c.loop-i.invariant.size ∙ sym (c.requires.1 ∙ parties_are _ _ c.requires.0))
+
+pub returns : goal.returns
+returns c = fill_end c.loop-i.invariant (omega arith)

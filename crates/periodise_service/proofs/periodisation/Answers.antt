@@ -1,0 +1,56 @@
+-- `periodise_service::periodisation` meets its contract: its tests stand in the order of the checks, and what passes them all is spread with nothing before and S
+-- the whole. Assumes nothing.
+use mathlib.Core.Path.{refl, sym, ◌∙◌, ap}
+use Rattle.answer.specs.Said.{said}
+use Rattle.answer.proofs.Checks.{unwritten}
+use Rattle.rules.specs.Refusals.{afterwards}
+use Rattle.periodise_service.proofs.Order.{lent_wrong, no_hours, too_many_hours, energy_wrong, weights_stop, follow_stop, all_pass, core_asks, core_gives}
+use Rattle.periodise_service.proofs.periodisation.Goals as goal
+
+pub returns-then-out-weights : goal.returns-then-out-weights
+unfolding afterwards
+returns-then-out-weights c = record { answer = lent_wrong _ _ _ c.if-out-weights.true; contents = refl }
+
+pub returns-then-weights-lt1 : goal.returns-then-weights-lt1
+unfolding afterwards
+returns-then-weights-lt1 c = record { answer = no_hours _ _ _ c.if-out-weights.false c.if-weights-lt1.true; contents = refl }
+
+pub returns-then-weights-gt-MOST_WEIGHTS : goal.returns-then-weights-gt-MOST_WEIGHTS
+unfolding afterwards
+returns-then-weights-gt-MOST_WEIGHTS c = record { answer = too_many_hours _ _ _ c.if-out-weights.false c.if-weights-lt1.false c.if-weights-gt-MOST_WEIGHTS.true; contents = refl }
+
+pub returns-then-e : goal.returns-then-e
+unfolding afterwards
+returns-then-e c = record { answer = energy_wrong _ _ _ c.if-out-weights.false c.if-weights-lt1.false c.if-weights-gt-MOST_WEIGHTS.false c.if-e.true; contents = refl }
+
+pub returns-in_default : goal.returns-in_default
+unfolding afterwards
+returns-in_default c = record { answer = weights_stop ((record { as_long = c.if-out-weights.false; some = c.if-weights-lt1.false; few = c.if-weights-gt-MOST_WEIGHTS.false; fits = c.if-e.false })) c.each_at_most_u32-each.ensures c.in_default.is; contents = unwritten _ _ c.in_default.is }
+
+pub returns-in_default-followed : goal.returns-in_default-followed
+unfolding afterwards
+returns-in_default-followed c =
+    record { answer = follow_stop ((record {
+      shape = (record { as_long = c.if-out-weights.false; some = c.if-weights-lt1.false; few = c.if-weights-gt-MOST_WEIGHTS.false; fits = c.if-e.false });
+      each = sym c.each_at_most_u32-each.ensures ∙ ap said c.in-Done.is;
+      total = c.total-s.ensures;
+    })) c.followed_by-followed.ensures c.in_default-followed.is; contents = unwritten _ _ c.in_default-followed.is }
+
+pub spread-requires : goal.spread-requires
+spread-requires c =
+    let known = (record {
+      shape = (record { as_long = c.if-out-weights.false; some = c.if-weights-lt1.false; few = c.if-weights-gt-MOST_WEIGHTS.false; fits = c.if-e.false });
+      each = sym c.each_at_most_u32-each.ensures ∙ ap said c.in-Done.is;
+      total = c.total-s.ensures;
+    }) in
+    (core_asks known, known.shape.as_long)
+
+pub returns : goal.returns
+unfolding afterwards
+returns c =
+    let known = (record {
+      shape = (record { as_long = c.if-out-weights.false; some = c.if-weights-lt1.false; few = c.if-weights-gt-MOST_WEIGHTS.false; fits = c.if-e.false });
+      each = sym c.each_at_most_u32-each.ensures ∙ ap said c.in-Done.is;
+      total = c.total-s.ensures;
+    }) in
+    record { answer = all_pass known c.followed_by-followed.ensures c.in-Done-followed.is; contents = core_gives known c.spread.ensures }

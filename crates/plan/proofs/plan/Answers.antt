@@ -1,0 +1,31 @@
+-- `plan::plan` meets its contract: 13 comes last (`Making`). Assumes nothing.
+use native.Mathlib.Omega.{arith}
+use Rattle.plan.proofs.Making.{refused_under, weighed_all, energy_small, making_asked, nothing_under, made_under}
+use Rattle.plan.proofs.plan.Goals as goal
+
+pub returns-in-Refused : goal.returns-in-Refused
+returns-in-Refused c = refused_under _ _ _ _ _ _ _ c.handed_fits-fit.ensures c.in-Refused.is c.refused.ensures
+
+pub whole_weight-whole-requires : goal.whole_weight-whole-requires
+whole_weight-whole-requires c = weighed_all c.args.e-wh _ _ c.args.parties.now _ _ _ c.handed_fits-fit.ensures c.in_default.is
+
+pub returns-then-not-follows : goal.returns-then-not-follows
+returns-then-not-follows c =
+    nothing_under _ _ _ _ _ _ _ c.handed_fits-fit.ensures c.in_default.is
+    c.whole_weight-whole.ensures c.follows.ensures c.if-not-follows.true-raw c.refused-then-not-follows.ensures
+
+pub overflow_cast-e_wh : goal.overflow_cast-e_wh
+overflow_cast-e_wh c =
+    omega (
+      arith,
+      energy_small c.args.e-wh c.args.a c.args.b c.args.parties.now c.args.hours.now c.args.curves.now _
+          c.handed_fits-fit.ensures c.in_default.is,
+    )
+
+pub make-requires : goal.make-requires
+make-requires c = making_asked _ _ _ _ _ _ _ c.handed_fits-fit.ensures c.in_default.is c.whole_weight-whole.ensures
+
+pub returns : goal.returns
+returns c =
+    made_under _ _ _ _ _ _ _ c.handed_fits-fit.ensures c.in_default.is
+    c.whole_weight-whole.ensures c.follows.ensures c.if-not-follows.false-raw c.make.ensures

@@ -1,0 +1,8 @@
+-- `preview::input_text` meets its contract: what is printed is the provisional statement of the input, however its reading ended. Assumes nothing.
+use Rattle.rules.specs.Statement.{per_party}
+use Rattle.rules.specs.Setting.{provisional}
+use Rattle.statement_input.proofs.Texts.{input_printed}
+use Rattle.preview.proofs.input_text.Goals as goal
+
+pub returns : goal.returns
+returns c = input_printed per_party provisional _ c.args.ending c.requires.0 c.input_text.ensures

@@ -1,0 +1,23 @@
+-- `record::flows_in` meets its contract: each flow is read at its place. Assumes nothing.
+use mir.Facts.{to_z-of_z}
+use mir.Syntax.{w64}
+use mir.Val.{SFits}
+use Rattle.record.proofs.Complement.{signed_8}
+use Rattle.record.proofs.Decoding.{flows_is}
+use borrow.Author.Rules.{rules}
+use Rattle.record.proofs.flows_in.Goals as goal
+
+pub returns : goal.returns
+returns c =
+    let f : SFits w64 c.signed.result = search rules in
+    rw (
+      to_z-of_z f,
+      c.u8_at.ensures,
+      c.signed.ensures,
+      c.number_at.ensures.0,
+      c.number_at-2.ensures.0,
+      c.number_at-3.ensures.0,
+      c.number_at-4.ensures.0,
+      signed_8,
+    )
+    (flows_is _ c.requires)

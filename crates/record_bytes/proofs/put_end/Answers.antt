@@ -1,0 +1,8 @@
+-- `record_bytes::put_end` meets its contract: the fields glued in their widths are the bytes. Assumes nothing.
+use mathlib.Core.Path.{◌∙◌, ap}
+use lib.Seq.{sets}
+use Rattle.record_bytes.proofs.Encoding.{end_glued}
+use Rattle.record_bytes.proofs.put_end.Goals as goal
+
+pub returns : goal.returns
+returns c = c.put_all.ensures ∙ ap (sets _ 0) (end_glued _)

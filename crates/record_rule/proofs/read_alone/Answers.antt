@@ -1,0 +1,35 @@
+-- `record_rule::read_alone` meets its contract: each test is the next check of the rules. Assumes nothing.
+use Rattle.rules.specs.Words.{at}
+use Rattle.rules.specs.Record.{kind_at}
+use native.Mathlib.Omega.{arith}
+use Rattle.record_rule.proofs.ReadOne.{nothing_there, no_kind, cut_short, stands_whole, whole_record, faulty_record}
+use Rattle.record_rule.proofs.read_alone.Goals as goal
+
+pub returns-then-part-lt1 : goal.returns-then-part-lt1
+returns-then-part-lt1 c = nothing_there _ (omega arith)
+
+pub returns-then-body-lt1 : goal.returns-then-body-lt1
+unfolding kind_at at
+returns-then-body-lt1 c = no_kind _ (omega arith) (omega (arith, c.body_length-body.ensures))
+
+pub returns-then-part-body : goal.returns-then-part-body
+unfolding kind_at at
+returns-then-part-body c = cut_short _ (omega arith) (omega (arith, c.body_length-body.ensures)) (omega (arith, c.body_length-body.ensures))
+
+pub decode-r-requires : goal.decode-r-requires
+unfolding kind_at at
+decode-r-requires c = stands_whole _ (omega arith) (omega (arith, c.body_length-body.ensures)) (omega (arith, c.body_length-body.ensures))
+
+pub returns-in-Done : goal.returns-in-Done
+unfolding kind_at at
+returns-in-Done c =
+    let size = c.body_length-body.ensures in
+    whole_record _ (omega arith) (omega (arith, size)) (omega (arith, size)) _ c.decode-r.ensures _ c.fault_of_part-a.ensures
+    c.in-Done.is
+
+pub returns-in-Refused : goal.returns-in-Refused
+unfolding kind_at at
+returns-in-Refused c =
+    let size = c.body_length-body.ensures in
+    faulty_record _ (omega arith) (omega (arith, size)) (omega (arith, size)) _ c.decode-r.ensures _ c.fault_of_part-a.ensures
+    c.in-Refused.is

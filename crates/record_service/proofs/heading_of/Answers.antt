@@ -1,0 +1,13 @@
+-- `record_service::heading_of` meets its contract: each number goes to its field. Assumes nothing.
+use Rattle.record_service.proofs.heading_of.Goals as goal
+
+pub returns : goal.returns
+returns c =
+    rw (
+      c.u16_of.ensures,
+      c.u16_of-2.ensures,
+      c.u8_of.ensures,
+      c.u16_of-3.ensures,
+      c.u8_of-2.ensures,
+      c.u8_of-3.ensures,
+    )

@@ -1,0 +1,58 @@
+-- `report_figures::all_hours` meets its contract: what is made before the hours, and the hours. Assumes nothing.
+use Prim.Native.Nat.{suc, ◌+◌}
+use native.Mathlib.Omega.{arith}
+use Rattle.month_prepare.proofs.Preparing.{so_many, few_hours}
+use Rattle.report_figures.proofs.Making.{sums_lent, part_enough, as_lent_again, so_made}
+use Rattle.rules.specs.Limits.{most_hours}
+use borrow.Author.Rules.{rules}
+use Rattle.report_figures.proofs.all_hours.Goals as goal
+
+pub slice_bounds-beginnings-end : goal.slice_bounds-beginnings-end
+slice_bounds-beginnings-end c = omega (arith, so_many (suc most_hours) c.beginning_places-beginnings.ensures, (omega (arith, few_hours _ _ c.requires.accepted)))
+
+pub make-made-requires : goal.make-made-requires
+make-made-requires c =
+    record {
+      accepted = c.requires.accepted;
+      fixed_size = c.requires.fixed_size;
+      refixed_size = c.requires.refixed_size;
+      curve_size = c.requires.curve_size;
+      beginnings_size = search rules;
+    }
+
+pub slice_bounds-pass_made-end : goal.slice_bounds-pass_made-end
+slice_bounds-pass_made-end c =
+    part_enough c.make-made.ensures (c.args.s.heading.hours + 1)
+    c.beginning_places-beginnings.result (so_many (suc most_hours) c.beginning_places-beginnings.ensures) ((omega (arith, few_hours _ _ c.requires.accepted))) c.beginnings-2-1.given
+
+pub pass_made-requires : goal.pass_made-requires
+pass_made-requires c =
+    (
+      c.requires.accepted,
+      (
+        so_made c.make-made.ensures (c.args.s.heading.hours + 1)
+            c.beginning_places-beginnings.result (so_many (suc most_hours) c.beginning_places-beginnings.ensures) ((omega (arith, few_hours _ _ c.requires.accepted))) c.beginnings-2-1.given,
+        sums_lent c.requires,
+      ),
+    )
+
+pub shape_of-fixed_wh : goal.shape_of-fixed_wh
+shape_of-fixed_wh c = c.fixed_wh-1.given
+
+pub shape_of-refixed_wh : goal.shape_of-refixed_wh
+shape_of-refixed_wh c = c.refixed_wh-1.given
+
+pub shape_of-curve : goal.shape_of-curve
+shape_of-curve c = c.curve-1.given
+
+pub shape_of-distributed_wh : goal.shape_of-distributed_wh
+shape_of-distributed_wh c = c.distributed_wh-1.given
+
+pub shape_of-periodised_wh : goal.shape_of-periodised_wh
+shape_of-periodised_wh c = c.periodised_wh-1.given
+
+pub returns : goal.returns
+returns c =
+    c.pass_made.ensures.under _
+    (as_lent_again c.make-made.ensures (c.args.s.heading.hours + 1)
+    c.beginning_places-beginnings.result (so_many (suc most_hours) c.beginning_places-beginnings.ensures) ((omega (arith, few_hours _ _ c.requires.accepted))) c.beginnings-2-1.given)

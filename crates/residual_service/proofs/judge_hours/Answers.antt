@@ -1,0 +1,35 @@
+-- `residual_service::judge_hours` meets its contract: what is left of the hours says what the whole says. Assumes nothing.
+use mathlib.Core.Path.{sym, ◌∙◌, ap}
+use mir.Facts.{to_z-of_z}
+use Rattle.answer.specs.Said.{said}
+use Rattle.rules.proofs.Loops.{look_start, look_pass, look_stop, look_end}
+use Rattle.residual_service.proofs.Hours.{within_limits, hour_said}
+use native.Mathlib.Omega.{arith}
+use Rattle.residual_service.proofs.judge_hours.Goals as goal
+
+pub loop-t-init : goal.loop-t-init
+loop-t-init c = look_start _ _
+
+pub residual_at-wh-requires : goal.residual_at-wh-requires
+residual_at-wh-requires c = within_limits _ _ _ _ _ c.requires _ (omega arith)
+
+pub returns-in_default : goal.returns-in_default
+returns-in_default c =
+    ap said c.in_default.is
+    ∙ sym
+    (look_stop c.loop-t.invariant (omega arith)
+    (sym ((hour_said _ _ _ _ _ _ c.judge-hour.result c.answer_of-here.result c.residual_at-wh.ensures
+    (to_z-of_z (record { sfits = c.residual_at-wh.type-inv }))
+    c.judge-hour.ensures
+    c.answer_of-here.ensures)) ∙ ap said c.in_default.is))
+
+pub loop-t-preserved : goal.loop-t-preserved
+loop-t-preserved c =
+    look_pass c.loop-t.invariant (omega arith)
+    (sym ((hour_said _ _ _ _ _ _ c.judge-hour.result c.answer_of-here.result c.residual_at-wh.ensures
+    (to_z-of_z (record { sfits = c.residual_at-wh.type-inv }))
+    c.judge-hour.ensures
+    c.answer_of-here.ensures)) ∙ ap said c.in-Done.is)
+
+pub returns : goal.returns
+returns c = sym (look_end c.loop-t.invariant (omega arith))

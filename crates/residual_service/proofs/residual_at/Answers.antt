@@ -1,0 +1,26 @@
+-- `residual_service::residual_at` meets its contract: the four flows of the hour are read back as they stand. Assumes nothing.
+use mathlib.Core.Path.{◌∙◌}
+use lib.IntN.{pos}
+use lib.ListN.{get_or}
+use mir.Facts.{to_z-of_z}
+use mir.Syntax.{w64}
+use mir.Val.{SFits}
+use Rattle.rules.specs.Services.{at_ℤ}
+use Rattle.rules.specs.Words.{at}
+use borrow.Author.Rules.{rules}
+use Rattle.residual_service.proofs.residual_at.Goals as goal
+
+pub residual_of-requires : goal.residual_of-requires
+unfolding at_ℤ at
+residual_of-requires c =
+    rw ((let a = c.args in
+    let f : SFits w64 (get_or a.nets.now a.t (pos 0)) = search rules in
+    to_z-of_z f)) c.requires.limits
+
+pub returns : goal.returns
+unfolding at_ℤ at
+returns c =
+    rw (to_z-of_z (record { sfits = c.residual_of.type-inv }))
+    (c.residual_of.ensures ∙ rw ((let a = c.args in
+    let f : SFits w64 (get_or a.nets.now a.t (pos 0)) = search rules in
+    to_z-of_z f)))

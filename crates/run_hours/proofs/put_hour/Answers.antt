@@ -1,0 +1,26 @@
+-- `run_hours::put_hour` meets its contract: each output is filled from the hour's place on. Assumes nothing.
+use native.Mathlib.Omega.{arith}
+use lib.IntN.{ℤ}
+use lib.ListN.{set}
+use mathlib.Core.Path.{◌∙◌, ap}
+use mir.Facts.{to_z-of_z}
+use mir.Syntax.{w64}
+use mir.Val.{SFits}
+use Rattle.run_hours.proofs.put_hour.Goals as goal
+
+pub overflow_mul-place : goal.overflow_mul-place
+overflow_mul-place c = omega (arith, c.requires.distributed_fits_holds)
+
+pub put_loss-requires : goal.put_loss-requires
+put_loss-requires c = omega (arith, c.requires.losses_fit)
+
+pub returns : goal.returns
+returns c =
+    let given = c.args in
+    let fits : SFits w64 given.quantities.loss_wh = record { sfits = c.struct_told-1.given.1.1.1.0.1 } in
+    record {
+      distributed = c.put_figures.ensures.fills;
+      periodised = c.put_wh.ensures.fills;
+      differences = c.put_figures-2.ensures.fills;
+      losses = c.put_loss.ensures ∙ ap (λ (z : ℤ). set given.losses-wh.now given.j z) (to_z-of_z fits);
+    }

@@ -1,0 +1,6 @@
+-- `settle_c::settle_curve` meets its contract: the service answers by its checks, and the number is that of its answer. Assumes nothing.
+use Rattle.settle_c.proofs.Told.{numbered}
+use Rattle.settle_c.proofs.settle_curve.Goals as goal
+
+pub returns : goal.returns
+returns c = numbered c.curve-answered.ensures c.code.ensures

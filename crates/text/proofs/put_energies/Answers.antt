@@ -1,0 +1,7 @@
+-- `text::put_energies` meets its contract: one column after the other. Assumes nothing.
+use Rattle.text.proofs.Column.{energies}
+use borrow.Author.Rules.{rules}
+use Rattle.text.proofs.put_energies.Goals as goal
+
+pub returns : goal.returns
+returns c = (energies c.ranges.distributed-wh _ c.put_column-after_distributed.ensures.0 c.put_unsigned.ensures.0, search rules)
