@@ -99,7 +99,7 @@ pub fn read_month(buffer: &mut [u8]) -> Input
 // The bytes that were read, at the start of a buffer for the longest file: what a program then makes its text of.
 pub fn bytes_read<'a>(buffer: &'a [u8], input: Input) -> &'a [u8]
     requires filled_in_bounds { input.filled ≤ length buffer.now }
-    requires full_2 { Full input.ending input.filled (length buffer.now) }
+    requires whole { Full input.ending input.filled (length buffer.now) }
     requires buffer_len { length buffer.now ≡ longest_file }
     ensures bytes { result.now ≡ take input.filled buffer.now }
     ensures full { FullyRead input.ending result.now }

@@ -36,13 +36,10 @@ returns-in_default-fit c =
 
 pub write_curve-requires : goal.write_curve-requires
 write_curve-requires c =
-    (
-      record {
+    record { curve_ready = record {
         some = shape_w _ _ _ (accepted_by c.curve_shape-shape.ensures c.in-Done.is);
         fitting = (accepted_by c.curve_numbers_fit-fit.ensures c.in-Done-fit.is);
-      },
-      shape_lent _ _ _ (accepted_by c.curve_shape-shape.ensures c.in-Done.is),
-    )
+      }; out_len = shape_lent _ _ _ (accepted_by c.curve_shape-shape.ensures c.in-Done.is) }
 
 pub returns : goal.returns
 unfolding afterwards

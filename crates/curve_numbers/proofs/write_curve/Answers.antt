@@ -7,11 +7,11 @@ use native.Mathlib.Omega.{arith}
 use Rattle.curve_numbers.proofs.write_curve.Goals as goal
 
 pub loop-t-init : goal.loop-t-init
-loop-t-init c = fill_start _ c.requires.1
+loop-t-init c = fill_start _ c.requires.out_len
 
 pub overflow_cast-out : goal.overflow_cast-out
 unfolding at
-overflow_cast-out c = number_fits _ _ c.requires.0 _ (omega arith) c.curve_number.ensures
+overflow_cast-out c = number_fits _ _ c.requires.curve_ready _ (omega arith) c.curve_number.ensures
 
 pub loop-t-preserved : goal.loop-t-preserved
 unfolding curve_at at

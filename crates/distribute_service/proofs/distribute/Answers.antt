@@ -14,9 +14,7 @@ pub step-carries-requires : goal.step-carries-requires
 step-carries-requires c = H.ready _ _ _ c.requires c.loop-t.invariant (omega arith)
 
 pub put_figures-requires : goal.put_figures-requires
-put_figures-requires c =
-    let asked = c.requires in
-    (asked.startable.few, H.place_fits _ _ _ asked c.loop-t.invariant (omega arith))
+put_figures-requires c = (c.requires.startable.few, H.place_fits _ _ _ c.requires c.loop-t.invariant (omega arith))
 
 pub overflow_add-place : goal.overflow_add-place
 overflow_add-place c = omega (arith, H.place_small _ _ _ c.requires c.loop-t.invariant (omega arith))

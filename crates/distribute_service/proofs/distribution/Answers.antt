@@ -19,8 +19,7 @@ returns-in_default-fitting c =
 
 pub w_in_range-weighed-requires : goal.w_in_range-weighed-requires
 w_in_range-weighed-requires c =
-    let residuals = c.args.residuals.now in
-    few_shares _ residuals _ (accepted_by c.shape-shaped.ensures c.in-Done.is)
+    few_shares _ c.args.residuals.now _ (accepted_by c.shape-shaped.ensures c.in-Done.is)
     (accepted_by c.each_at_most_u64-fitting.ensures c.in-Done-fitting.is)
 
 pub returns-in_default-weighed : goal.returns-in_default-weighed

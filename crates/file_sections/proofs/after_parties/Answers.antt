@@ -16,4 +16,4 @@ pub overflow_add-result : goal.overflow_add-result
 overflow_add-result c = record { fits = omega (arith, at_most c.requires ((search rules))) }
 
 pub returns : goal.returns
-returns c = (omega arith, omega (arith, at_most c.requires ((search rules))))
+returns c = record { value = omega arith; bound = omega (arith, at_most c.requires ((search rules))) }

@@ -2,4 +2,4 @@
 use Rattle.file_sections.proofs.laid_out.Goals as goal
 
 pub returns : goal.returns
-returns c = rw (c.after_parties-fixed_at.ensures.0, c.size_of-party_size.ensures.0)
+returns c = rw (c.after_parties-fixed_at.ensures.value, c.size_of-party_size.ensures.value)

@@ -7,4 +7,4 @@ pub overflow_add-result : goal.overflow_add-result
 overflow_add-result c = omega (arith, c.body_length.ensures, body_short c.args.kind)
 
 pub returns : goal.returns
-returns c = (omega (arith, c.body_length.ensures), omega (arith, c.body_length.ensures, body_short c.args.kind))
+returns c = record { value = omega (arith, c.body_length.ensures); bound = omega (arith, c.body_length.ensures, body_short c.args.kind) }

@@ -8,9 +8,8 @@ use Rattle.hours.proofs.file_text.Goals as goal
 
 pub returns-in_default : goal.returns-in_default
 returns-in_default c =
-    let stands = line_stands c.refusal_line.ensures (search rules) in
-    alone_printed c.alone.ensures
-    (stands.0, stands.1 ∙ refusal_printed Final _ _ _ _ c.report-reported.ensures c.requires c.in_default.is)
+    let stands = line_stands c.refusal_line.ensures (search rules) in let both = alone_printed c.alone.ensures
+    (stands.0, stands.1 ∙ refusal_printed Final _ _ _ _ c.report-reported.ensures c.requires c.in_default.is) in record { within = both.0; text = both.1 }
 
 pub returns : goal.returns
-returns c = lines_printed Final _ _ _ _ c.report-reported.ensures c.in-Lines.is
+returns c = let both = lines_printed Final _ _ _ _ c.report-reported.ensures c.in-Lines.is in record { within = both.0; text = both.1 }

@@ -10,24 +10,24 @@ returns-in_default c = curve_refused c.requires c.curve-fit.ensures.answer _ c.c
 
 pub beginnings-requires : goal.beginnings-requires
 beginnings-requires c =
-    (
-      c.requires.beginnings_size
+    record {
+      out_len = c.requires.beginnings_size
           ∙ ap suc
-          (sym (numbers_many c.requires c.curve-fit.ensures.answer _ c.curve-fit.ensures.contents c.in-Done.is)),
-      omega (
+          (sym (numbers_many c.requires c.curve-fit.ensures.answer _ c.curve-fit.ensures.contents c.in-Done.is));
+      curve_len_bound = omega (
         arith,
         few c.requires,
         numbers_many c.requires c.curve-fit.ensures.answer _ c.curve-fit.ensures.contents c.in-Done.is,
-      ),
-    )
+      );
+    }
 
 pub judge_readings-requires : goal.judge_readings-requires
 judge_readings-requires c =
-    (
-      c.requires.accepted,
-      begun_are c.requires c.curve-fit.ensures.answer _ c.curve-fit.ensures.contents c.in-Done.is
-          c.beginnings.ensures,
-    )
+    record {
+      accepted = c.requires.accepted;
+      beginnings_value = begun_are c.requires c.curve-fit.ensures.answer _ c.curve-fit.ensures.contents c.in-Done.is
+          c.beginnings.ensures;
+    }
 
 pub returns : goal.returns
 returns c =

@@ -5,20 +5,16 @@ use Rattle.run_hours.proofs.Ready.{windows_known}
 use Rattle.month_run.proofs.all_judged.Goals as goal
 
 pub slice_bounds-judge_all-end : goal.slice_bounds-judge_all-end
-slice_bounds-judge_all-end c =
-    let ready = c.requires in
-    curve_enough ready.accepted ready.is
+slice_bounds-judge_all-end c = curve_enough c.requires.accepted c.requires.is
 
 pub slice_bounds-judge_all-end-2 : goal.slice_bounds-judge_all-end-2
-slice_bounds-judge_all-end-2 c =
-    let ready = c.requires in
-    beginnings_enough ready.accepted ready.is
+slice_bounds-judge_all-end-2 c = beginnings_enough c.requires.accepted c.requires.is
 
 pub slice_bounds-judge_all-end-3 : goal.slice_bounds-judge_all-end-3
 slice_bounds-judge_all-end-3 c = sym (so_many _ c.window_places-window.ensures)
 
 pub judge_all-requires : goal.judge_all-requires
-judge_all-requires c = (windows_known c.requires, so_many _ c.window_places-window.ensures)
+judge_all-requires c = record { windows_known = windows_known c.requires; window_len = so_many _ c.window_places-window.ensures }
 
 pub returns : goal.returns
-returns c = c.judge_all.ensures.0
+returns c = c.judge_all.ensures.answer

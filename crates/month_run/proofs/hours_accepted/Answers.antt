@@ -8,9 +8,8 @@ use Rattle.month_run.proofs.hours_accepted.Goals as goal
 
 pub returns-in_default : goal.returns-in_default
 returns-in_default c =
-    let refuses = c.in_default.is in
-    refused_file _ _ _ _ _ _ _ _ refuses
-    (file_verdict_lem optional _ _ _ c.requires ∙ sym (refused_before c.prepare-prepared.ensures.is refuses) ∙ ap said refuses)
+    refused_file _ _ _ _ _ _ _ _ c.in_default.is
+    (file_verdict_lem optional _ _ _ c.requires ∙ sym (refused_before c.prepare-prepared.ensures.is c.in_default.is) ∙ ap said c.in_default.is)
 
 pub run_made-requires : goal.run_made-requires
 run_made-requires c = record { accepted = c.requires; setting = c.args.setting; is = c.prepare-prepared.ensures; c = c.in-Done.is }

@@ -12,17 +12,10 @@ pub returns-in_default : goal.returns-in_default
 returns-in_default c = refused_hour _ _ _ _ _ _ _ c.all_judged-limited.ensures c.in_default.is
 
 pub returns-in_default-right : goal.returns-in_default-right
-returns-in_default-right c =
-    let ready = c.requires in
-    refused_run ready.accepted ((sym c.all_judged-limited.ensures ∙ ap said c.in-Done.is)) _ _ _ _ _ _ c.asked-right.ensures c.in_default-right.is
+returns-in_default-right c = refused_run c.requires.accepted ((sym c.all_judged-limited.ensures ∙ ap said c.in-Done.is)) _ _ _ _ _ _ c.asked-right.ensures c.in_default-right.is
 
 pub write-requires : goal.write-requires
-write-requires c =
-    let ready = c.requires in
-    let lent = run_lent ready.accepted ((sym c.all_judged-limited.ensures ∙ ap said c.in-Done.is)) _ _ _ _ _ _ _ c.asked-right.ensures c.in-Done-right.is in
-    (record { ready = ready; none_refuses = (sym c.all_judged-limited.ensures ∙ ap said c.in-Done.is) }, lent)
+write-requires c = let lent = run_lent c.requires.accepted ((sym c.all_judged-limited.ensures ∙ ap said c.in-Done.is)) _ _ _ _ _ _ _ c.asked-right.ensures c.in-Done-right.is in record { run_ready = record { c.requires = c.requires; none_refuses = (sym c.all_judged-limited.ensures ∙ ap said c.in-Done.is) }; run_lent = lent }
 
 pub returns : goal.returns
-returns c =
-    let ready = c.requires in
-    written ready.accepted ((sym c.all_judged-limited.ensures ∙ ap said c.in-Done.is)) _ _ _ _ _ _ c.asked-right.ensures c.in-Done-right.is c.write.ensures
+returns c = written c.requires.accepted ((sym c.all_judged-limited.ensures ∙ ap said c.in-Done.is)) _ _ _ _ _ _ c.asked-right.ensures c.in-Done-right.is c.write.ensures

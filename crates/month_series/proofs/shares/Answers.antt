@@ -7,25 +7,25 @@ use native.Mathlib.Omega.{arith}
 use Rattle.month_series.proofs.shares.Goals as goal
 
 pub loop-i-init : goal.loop-i-init
-loop-i-init c = fill_start _ (c.requires.1 ∙ parties_are _ _ c.requires.0)
+loop-i-init c = fill_start _ (c.requires.out_len ∙ parties_are _ _ c.requires.accepted)
 
 pub load_share-requires : goal.load_share-requires
-load_share-requires c = record { accepted = c.requires.0; party = omega (arith, (c.loop-i.invariant.size ∙ sym (c.requires.1 ∙ parties_are _ _ c.requires.0)), c.requires.1) }
+load_share-requires c = record { accepted = c.requires.accepted; party = omega (arith, (c.loop-i.invariant.size ∙ sym (c.requires.out_len ∙ parties_are _ _ c.requires.accepted)), c.requires.out_len) }
 
 pub offset_bounds-out-i : goal.offset_bounds-out-i
-offset_bounds-out-i c = omega (arith, (c.loop-i.invariant.size ∙ sym (c.requires.1 ∙ parties_are _ _ c.requires.0)))
+offset_bounds-out-i c = omega (arith, (c.loop-i.invariant.size ∙ sym (c.requires.out_len ∙ parties_are _ _ c.requires.accepted)))
 
 pub overflow_add-i : goal.overflow_add-i
-overflow_add-i c = omega (arith, (c.loop-i.invariant.size ∙ sym (c.requires.1 ∙ parties_are _ _ c.requires.0)))
+overflow_add-i c = omega (arith, (c.loop-i.invariant.size ∙ sym (c.requires.out_len ∙ parties_are _ _ c.requires.accepted)))
 
 pub loop-i-smaller : goal.loop-i-smaller
 loop-i-smaller c = omega (arith, c.loop-i.invariant.size)
 
 pub loop-i-preserved : goal.loop-i-preserved
-loop-i-preserved c = fill_next c.loop-i.invariant (omega arith) (share_read _ _ c.requires.0 c.load_share.ensures)
+loop-i-preserved c = fill_next c.loop-i.invariant (omega arith) (share_read _ _ c.requires.accepted c.load_share.ensures)
 
 pub shape_of-out : goal.shape_of-out
-shape_of-out c = (c.loop-i.invariant.size ∙ sym (c.requires.1 ∙ parties_are _ _ c.requires.0))
+shape_of-out c = (c.loop-i.invariant.size ∙ sym (c.requires.out_len ∙ parties_are _ _ c.requires.accepted))
 
 pub returns : goal.returns
 returns c = fill_end c.loop-i.invariant (omega arith)

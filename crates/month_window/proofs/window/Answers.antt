@@ -10,23 +10,22 @@ pub loop-j-init : goal.loop-j-init
 loop-j-init c = (counted_start c.requires c.clear.ensures, none_before _ _)
 
 pub reading-x-requires : goal.reading-x-requires
-reading-x-requires c = reading_asked _ _ _ _ ((    record { accepted = c.requires.accepted; number = omega arith; is = c.loop-j.invariant.1 }))
+reading-x-requires c = reading_asked _ _ _ _ ((record { accepted = c.requires.accepted; number = omega arith; is = c.loop-j.invariant.1 }))
 
 pub add_reading-requires : goal.add_reading-requires
-add_reading-requires c = taken c.requires c.loop-j.invariant.0 ((    record { accepted = c.requires.accepted; number = omega arith; is = c.loop-j.invariant.1 })) c.reading-x.ensures
+add_reading-requires c = taken c.requires c.loop-j.invariant.0 ((record { accepted = c.requires.accepted; number = omega arith; is = c.loop-j.invariant.1 })) c.reading-x.ensures
 
 pub overflow_add-place : goal.overflow_add-place
-overflow_add-place c = omega (arith, next_within _ _ _ _ ((    record { accepted = c.requires.accepted; number = omega arith; is = c.loop-j.invariant.1 })) c.reading-x.ensures c.reading_size-place.ensures, short_file c.args.file.now c.args.s c.requires.accepted)
+overflow_add-place c = omega (arith, next_within _ _ _ _ ((record { accepted = c.requires.accepted; number = omega arith; is = c.loop-j.invariant.1 })) c.reading-x.ensures c.reading_size-place.ensures, short_file c.args.file.now c.args.s c.requires.accepted)
 
 pub overflow_add-j : goal.overflow_add-j
 overflow_add-j c = omega (arith, few_readings c.args.file.now c.args.s c.requires.accepted)
 
 pub loop-j-preserved : goal.loop-j-preserved
-loop-j-preserved c =
-    (
-      counted_next c.requires c.loop-j.invariant.0 ((    record { accepted = c.requires.accepted; number = omega arith; is = c.loop-j.invariant.1 })) c.reading-x.ensures c.add_reading.ensures,
-      next_place _ _ _ _ ((    record { accepted = c.requires.accepted; number = omega arith; is = c.loop-j.invariant.1 })) c.reading-x.ensures c.reading_size-place.ensures ∙ one_further _ _ _,
-    )
+loop-j-preserved c = (
+  counted_next c.requires c.loop-j.invariant.0 ((record { accepted = c.requires.accepted; number = omega arith; is = c.loop-j.invariant.1 })) c.reading-x.ensures c.add_reading.ensures,
+  next_place _ _ _ _ ((record { accepted = c.requires.accepted; number = omega arith; is = c.loop-j.invariant.1 })) c.reading-x.ensures c.reading_size-place.ensures ∙ one_further _ _ _,
+)
 
 pub returns : goal.returns
 returns c = counted_end c.requires c.loop-j.invariant.0 (omega arith)

@@ -8,36 +8,36 @@ use Rattle.periodise.proofs.Spreading.{run_inside, add_start, in_part, add_asks,
 use Rattle.periodise.proofs.add.Goals as goal
 
 pub overflow_add-s : goal.overflow_add-s
-overflow_add-s c = omega (arith, run_inside c.requires.0)
+overflow_add-s c = omega (arith, run_inside c.requires.part)
 
 pub product_mod-left-requires : goal.product_mod-left-requires
 product_mod-left-requires c =
     let d : c.divisor_of-divisor.result ≡ max c.args.s.whole 1 = c.divisor_of-divisor.ensures in
-    omega (arith, run_inside c.requires.0, c.requires.0.spread)
+    omega (arith, run_inside c.requires.part, c.requires.part.spread)
 
 pub loop-i-init : goal.loop-i-init
-loop-i-init c = add_start c.requires.0 c.divisor_of-divisor.ensures c.product_mod-left.ensures
+loop-i-init c = add_start c.requires.part c.divisor_of-divisor.ensures c.product_mod-left.ensures
 
 pub overflow_add-skip : goal.overflow_add-skip
-overflow_add-skip c = omega (arith, (in_part c.requires.0 c.loop-i.invariant c.loop-i-test.true))
+overflow_add-skip c = omega (arith, (in_part c.requires.part c.loop-i.invariant c.loop-i-test.true))
 
 pub offset_bounds-part-skip : goal.offset_bounds-part-skip
-offset_bounds-part-skip c = omega (arith, (in_part c.requires.0 c.loop-i.invariant c.loop-i-test.true))
+offset_bounds-part-skip c = omega (arith, (in_part c.requires.part c.loop-i.invariant c.loop-i-test.true))
 
 pub bounds-part-skip : goal.bounds-part-skip
-bounds-part-skip c = (in_part c.requires.0 c.loop-i.invariant c.loop-i-test.true)
+bounds-part-skip c = (in_part c.requires.part c.loop-i.invariant c.loop-i-test.true)
 
 pub hour_of-t-requires : goal.hour_of-t-requires
 unfolding at
-hour_of-t-requires c = add_asks c.requires.0 c.loop-i.invariant c.loop-i-test.true
+hour_of-t-requires c = add_asks c.requires.part c.loop-i.invariant c.loop-i-test.true
 
 pub overflow_add-out : goal.overflow_add-out
 unfolding at
-overflow_add-out c = omega (arith, add_fits c.requires.0 c.loop-i.invariant c.loop-i-test.taken c.hour_of-t.ensures c.wide.ensures c.requires.1)
+overflow_add-out c = omega (arith, add_fits c.requires.part c.loop-i.invariant c.loop-i-test.taken c.hour_of-t.ensures c.wide.ensures c.requires.room)
 
 pub loop-i-preserved : goal.loop-i-preserved
 unfolding at
-loop-i-preserved c = add_next c.requires.0 c.loop-i.invariant c.loop-i-test.taken c.hour_of-t.ensures c.wide.ensures
+loop-i-preserved c = add_next c.requires.part c.loop-i.invariant c.loop-i-test.taken c.hour_of-t.ensures c.wide.ensures
 
 pub returns : goal.returns
-returns c = add_end c.requires.0 c.loop-i.invariant (omega arith)
+returns c = add_end c.requires.part c.loop-i.invariant (omega arith)

@@ -30,11 +30,14 @@ returns-in_default c = record { answer = weights_stop ((record { as_long = c.if-
 pub returns-in_default-followed : goal.returns-in_default-followed
 unfolding afterwards
 returns-in_default-followed c =
-    record { answer = follow_stop ((record {
-      shape = (record { as_long = c.if-out-weights.false; some = c.if-weights-lt1.false; few = c.if-weights-gt-MOST_WEIGHTS.false; fits = c.if-e.false });
-      each = sym c.each_at_most_u32-each.ensures ∙ ap said c.in-Done.is;
-      total = c.total-s.ensures;
-    })) c.followed_by-followed.ensures c.in_default-followed.is; contents = unwritten _ _ c.in_default-followed.is }
+    record {
+      answer = follow_stop ((record {
+        shape = (record { as_long = c.if-out-weights.false; some = c.if-weights-lt1.false; few = c.if-weights-gt-MOST_WEIGHTS.false; fits = c.if-e.false });
+        each = sym c.each_at_most_u32-each.ensures ∙ ap said c.in-Done.is;
+        total = c.total-s.ensures;
+      })) c.followed_by-followed.ensures c.in_default-followed.is;
+      contents = unwritten _ _ c.in_default-followed.is;
+    }
 
 pub spread-requires : goal.spread-requires
 spread-requires c =
@@ -42,8 +45,7 @@ spread-requires c =
       shape = (record { as_long = c.if-out-weights.false; some = c.if-weights-lt1.false; few = c.if-weights-gt-MOST_WEIGHTS.false; fits = c.if-e.false });
       each = sym c.each_at_most_u32-each.ensures ∙ ap said c.in-Done.is;
       total = c.total-s.ensures;
-    }) in
-    (core_asks known, known.shape.as_long)
+    }) in record { within = core_asks known; out_len = known.shape.as_long }
 
 pub returns : goal.returns
 unfolding afterwards

@@ -7,19 +7,15 @@ use Rattle.periodise.proofs.Spreading.{stand_first, turn_asks, turn_gives, stand
 use Rattle.periodise_service.proofs.spread.Goals as goal
 
 pub loop-i-init : goal.loop-i-init
-loop-i-init c = (stand_first c.divisor_of-divisor.ensures, fill_start _ c.requires.1)
+loop-i-init c = (stand_first c.divisor_of-divisor.ensures, fill_start _ c.requires.out_len)
 
 pub hour_of-t-requires : goal.hour_of-t-requires
 unfolding at
-hour_of-t-requires c = turn_asks c.requires.0 c.loop-i.invariant.0 c.loop-i-test.true
+hour_of-t-requires c = turn_asks c.requires.within c.loop-i.invariant.0 c.loop-i-test.true
 
 pub loop-i-preserved : goal.loop-i-preserved
 unfolding at
-loop-i-preserved c =
-    let b = c.loop-i-test.true in
-    let t = c.hour_of-t.ensures in
-    let w = c.requires.0 in
-    (stand_next w c.loop-i.invariant.0 b t (omega arith), fill_next c.loop-i.invariant.1 b (turn_gives w c.loop-i.invariant.0 b t))
+loop-i-preserved c = (stand_next c.requires.within c.loop-i.invariant.0 c.loop-i-test.true c.hour_of-t.ensures (omega arith), fill_next c.loop-i.invariant.1 c.loop-i-test.true (turn_gives c.requires.within c.loop-i.invariant.0 c.loop-i-test.true c.hour_of-t.ensures))
 
 pub returns : goal.returns
 returns c = fill_end c.loop-i.invariant.1 (omega arith)

@@ -7,7 +7,7 @@ pub returns-in-Refused : goal.returns-in-Refused
 returns-in-Refused c = refused_under _ _ _ _ _ _ _ c.handed_fits-fit.ensures c.in-Refused.is c.refused.ensures
 
 pub whole_weight-whole-requires : goal.whole_weight-whole-requires
-whole_weight-whole-requires c = weighed_all c.args.e-wh _ _ c.args.parties.now _ _ _ c.handed_fits-fit.ensures c.in_default.is
+whole_weight-whole-requires c = weighed_all c.args.e_wh _ _ c.args.parties.now _ _ _ c.handed_fits-fit.ensures c.in_default.is
 
 pub returns-then-not-follows : goal.returns-then-not-follows
 returns-then-not-follows c =
@@ -18,7 +18,7 @@ pub overflow_cast-e_wh : goal.overflow_cast-e_wh
 overflow_cast-e_wh c =
     omega (
       arith,
-      energy_small c.args.e-wh c.args.a c.args.b c.args.parties.now c.args.hours.now c.args.curves.now _
+      energy_small c.args.e_wh c.args.a c.args.b c.args.parties.now c.args.hours.now c.args.curves.now _
           c.handed_fits-fit.ensures c.in_default.is,
     )
 

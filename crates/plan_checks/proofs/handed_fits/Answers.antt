@@ -6,7 +6,7 @@ pub returns-in_default : goal.returns-in_default
 returns-in_default c = lists_refused _ _ _ _ _ _ _ c.lists_fit-lists.ensures c.in_default.is
 
 pub span_fits-span-requires : goal.span_fits-span-requires
-span_fits-span-requires c = few_months c.args.e-wh c.args.a c.args.b _ _ _ _ c.lists_fit-lists.ensures c.in-Done.is
+span_fits-span-requires c = few_months c.args.e_wh c.args.a c.args.b _ _ _ _ c.lists_fit-lists.ensures c.in-Done.is
 
 pub returns-in_default-span : goal.returns-in_default-span
 returns-in_default-span c = span_refused _ _ _ _ _ _ _ c.lists_fit-lists.ensures c.in-Done.is _ c.span_fits-span.ensures c.in_default-span.is

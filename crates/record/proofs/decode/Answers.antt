@@ -64,9 +64,8 @@ returns-in-1 c = c.heading_in.ensures ∙ as_at c.requires heading_kind c.in-1.i
 pub returns-in-2 : goal.returns-in-2
 unfolding body_lengths
 returns-in-2 c =
-    let whole = c.requires in
     rw c.share_in.ensures
-    (party_is _ (omega (arith, stands whole party_kind c.in-2.is)) ∙ as_at whole party_kind c.in-2.is)
+    (party_is _ (omega (arith, stands c.requires party_kind c.in-2.is)) ∙ as_at c.requires party_kind c.in-2.is)
 
 pub returns-in-3 : goal.returns-in-3
 returns-in-3 c = rw (c.u16_at.ensures, c.flows_in.ensures) (fixed_is _ ∙ as_at c.requires fixed_hour_kind c.in-3.is)
@@ -78,9 +77,8 @@ pub returns-in-5 : goal.returns-in-5
 unfolding body_lengths
 returns-in-5 c =
     let f : SFits w64 c.price_in.result = search rules in
-    let whole = c.requires in
     rw (to_z-of_z f, c.u16_at-in-5.ensures, c.price_in.ensures)
-    (price_is _ (omega (arith, stands whole price_kind c.in-5.is)) ∙ as_at whole price_kind c.in-5.is)
+    (price_is _ (omega (arith, stands c.requires price_kind c.in-5.is)) ∙ as_at c.requires price_kind c.in-5.is)
 
 pub returns-in-6 : goal.returns-in-6
 returns-in-6 c = rw (c.u16_at-in-6.ensures, c.flows_in-in-6.ensures) (refixed_is _ ∙ as_at c.requires refixed_hour_kind c.in-6.is)
@@ -91,9 +89,8 @@ returns-in-8 c = c.long_reading_in.ensures ∙ as_at c.requires long_reading_kin
 pub returns-in-18 : goal.returns-in-18
 unfolding body_lengths
 returns-in-18 c =
-    let whole = c.requires in
     rw c.brp_share_in.ensures
-    (brp_party_is _ (omega (arith, stands whole brp_party_kind c.in-18.is)) ∙ as_at whole brp_party_kind c.in-18.is)
+    (brp_party_is _ (omega (arith, stands c.requires brp_party_kind c.in-18.is)) ∙ as_at c.requires brp_party_kind c.in-18.is)
 
 pub returns-in_default : goal.returns-in_default
 returns-in_default c = rw c.u32_at.ensures (end_is _ ∙ as_at c.requires end_kind (end_kind_lem c.requires c.in_default.rest))

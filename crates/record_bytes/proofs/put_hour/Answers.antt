@@ -15,5 +15,4 @@ unsigned-requires c = let f : SFits w64 c.args.f.net_wh = search rules in rw (to
 pub returns : goal.returns
 returns c =
     let f : SFits w64 c.args.f.net_wh = search rules in
-    let bits = c.unsigned.ensures in
-    c.put_all.ensures ∙ ap (sets _ 0) (hour_glued _ c.ranges.sort.fits _ _ f bits)
+    c.put_all.ensures ∙ ap (sets _ 0) (hour_glued _ c.ranges.sort.fits _ _ f c.unsigned.ensures)

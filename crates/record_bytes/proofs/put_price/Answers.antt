@@ -5,6 +5,4 @@ use Rattle.record_bytes.proofs.Encoding.{price_glued}
 use Rattle.record_bytes.proofs.put_price.Goals as goal
 
 pub returns : goal.returns
-returns c =
-    let bits = c.unsigned.ensures in
-    c.put_all.ensures ∙ ap (sets _ 0) (price_glued _ _ c.ranges.price-ore bits)
+returns c = c.put_all.ensures ∙ ap (sets _ 0) (price_glued _ _ c.ranges.price_ore c.unsigned.ensures)

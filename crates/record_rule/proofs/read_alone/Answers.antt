@@ -23,13 +23,11 @@ decode-r-requires c = stands_whole _ (omega arith) (omega (arith, c.body_length-
 pub returns-in-Done : goal.returns-in-Done
 unfolding kind_at at
 returns-in-Done c =
-    let size = c.body_length-body.ensures in
-    whole_record _ (omega arith) (omega (arith, size)) (omega (arith, size)) _ c.decode-r.ensures _ c.fault_of_part-a.ensures
+    whole_record _ (omega arith) (omega (arith, c.body_length-body.ensures)) (omega (arith, c.body_length-body.ensures)) _ c.decode-r.ensures _ c.fault_of_part-a.ensures
     c.in-Done.is
 
 pub returns-in-Refused : goal.returns-in-Refused
 unfolding kind_at at
 returns-in-Refused c =
-    let size = c.body_length-body.ensures in
-    faulty_record _ (omega arith) (omega (arith, size)) (omega (arith, size)) _ c.decode-r.ensures _ c.fault_of_part-a.ensures
+    faulty_record _ (omega arith) (omega (arith, c.body_length-body.ensures)) (omega (arith, c.body_length-body.ensures)) _ c.decode-r.ensures _ c.fault_of_part-a.ensures
     c.in-Refused.is

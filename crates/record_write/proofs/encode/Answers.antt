@@ -30,9 +30,8 @@ put_reading-requires c = room_of c.requires _ (ap kind_of c.in-Reading.is)
 pub put_price-requires : goal.put_price-requires
 unfolding body_lengths
 put_price-requires c =
-    let is = c.in-Price.is in
     let f : SFits w64 c.in-Price.price_ore = search rules in
-    (rw (to_z-of_z f) (price_small c.requires is), omega (arith, room_of c.requires RRecord.price_kind (ap kind_of is)))
+    (rw (to_z-of_z f) (price_small c.requires c.in-Price.is), omega (arith, room_of c.requires RRecord.price_kind (ap kind_of c.in-Price.is)))
 
 pub put_hour-requires-in-RefixedHour : goal.put_hour-requires-in-RefixedHour
 unfolding body_lengths

@@ -9,16 +9,11 @@ use Rattle.record_write.proofs.put_party_record.Goals as goal
 
 pub put_party-requires : goal.put_party-requires
 unfolding body_lengths
-put_party-requires c =
-    let writable = c.requires in
-    (gln_whole writable refl, omega (arith, room_of writable party_kind (ap kind_of_brp c.in-Own.is)))
+put_party-requires c = (gln_whole c.requires refl, omega (arith, room_of c.requires party_kind (ap kind_of_brp c.in-Own.is)))
 
 pub put_brp_party-requires : goal.put_brp_party-requires
 unfolding body_lengths
-put_brp_party-requires c =
-    let writable = c.requires in
-    let named = c.in-Named.is in
-    (gln_whole writable refl, brp_gln_whole writable refl named, omega (arith, room_of writable brp_party_kind (ap kind_of_brp named)))
+put_brp_party-requires c = (gln_whole c.requires refl, brp_gln_whole c.requires refl c.in-Named.is, omega (arith, room_of c.requires brp_party_kind (ap kind_of_brp c.in-Named.is)))
 
 pub returns-in-Own : goal.returns-in-Own
 returns-in-Own c = rw c.in-Own.is c.put_party.ensures

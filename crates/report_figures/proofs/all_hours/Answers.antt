@@ -27,14 +27,14 @@ slice_bounds-pass_made-end c =
 
 pub pass_made-requires : goal.pass_made-requires
 pass_made-requires c =
-    (
+    let both = (
       c.requires.accepted,
       (
         so_made c.make-made.ensures (c.args.s.heading.hours + 1)
             c.beginning_places-beginnings.result (so_many (suc most_hours) c.beginning_places-beginnings.ensures) ((omega (arith, few_hours _ _ c.requires.accepted))) c.beginnings-2-1.given,
         sums_lent c.requires,
       ),
-    )
+    ) in record { accepted = both.0; made_so = both.1; sums_lent = both.2 }
 
 pub shape_of-fixed_wh : goal.shape_of-fixed_wh
 shape_of-fixed_wh c = c.fixed_wh-1.given

@@ -11,10 +11,10 @@ returns-in_default c = not_made c.in_default.is _ _ _
 
 pub pass_hours-passed-requires : goal.pass_hours-passed-requires
 pass_hours-passed-requires c =
-    let made = c.requires.1.0.made (ap said c.in-Done.is) in (
-      month_known _ _ c.requires.0 made refl c.applied-applied_wh.ensures,
-      (beginning _ _ c.requires.0 made, (search rules, c.requires.1.1)),
-    )
+    let made = c.requires.made_so.0.made (ap said c.in-Done.is) in let both = (
+      month_known _ _ c.requires.accepted made refl c.applied-applied_wh.ensures,
+      (beginning _ _ c.requires.accepted made, (search rules, c.requires.made_so.1)),
+    ) in record { month_known = both.0; beginning = both.1; window_len = both.2; sums_lent = both.3 }
 
 pub shape_of-distributed_wh : goal.shape_of-distributed_wh
 shape_of-distributed_wh c = c.distributed_wh-1.given
@@ -23,4 +23,4 @@ pub shape_of-periodised_wh : goal.shape_of-periodised_wh
 shape_of-periodised_wh c = c.periodised_wh-1.given
 
 pub returns : goal.returns
-returns c = numbers_made c.in-Done.is c.pass_hours-passed.ensures.0
+returns c = numbers_made c.in-Done.is c.pass_hours-passed.ensures.passed

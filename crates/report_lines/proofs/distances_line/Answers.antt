@@ -7,8 +7,8 @@ use Rattle.report_lines.proofs.distances_line.Goals as goal
 pub returns : goal.returns
 unfolding newline
 returns c =
-    (
-      distances c.ranges.smallest c.ranges.largest _ _ c.put_bytes-after_name.ensures
-          c.put_fraction-after_smallest.ensures.0 c.put_fraction-after_largest.ensures.0 c.put_bytes.ensures,
-      search rules,
-    )
+    record {
+      text = distances c.ranges.smallest c.ranges.largest _ _ c.put_bytes-after_name.ensures
+          c.put_fraction-after_smallest.ensures.text c.put_fraction-after_largest.ensures.text c.put_bytes.ensures;
+      within = search rules;
+    }

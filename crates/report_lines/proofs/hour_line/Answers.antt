@@ -7,9 +7,9 @@ use Rattle.report_lines.proofs.hour_line.Goals as goal
 pub returns : goal.returns
 unfolding newline
 returns c =
-    (
-      hour c.ranges.distributed-wh c.ranges.loss-wh _ _ _ _ _ _ _ c.put_hour_statuses-series.ensures.0
-          c.put_series-parts.ensures.0 c.put_energies-loss.ensures.0 c.put_column-after_loss.ensures.0
-          c.put_bytes.ensures,
-      search rules,
-    )
+    record {
+      text = hour c.ranges.distributed_wh c.ranges.loss_wh _ _ _ _ _ _ _ c.put_hour_statuses-series.ensures.text
+          c.put_series-parts.ensures.text c.put_energies-loss.ensures.text c.put_column-after_loss.ensures.text
+          c.put_bytes.ensures;
+      within = search rules;
+    }

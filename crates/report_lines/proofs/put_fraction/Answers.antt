@@ -6,4 +6,4 @@ use Rattle.report_lines.proofs.put_fraction.Goals as goal
 
 pub returns : goal.returns
 unfolding ascii
-returns c = (fraction_column c.ranges.n _ c.put_column-after_n.ensures.0 c.put_word_number.ensures.0, search rules)
+returns c = record { text = fraction_column c.ranges.n _ c.put_column-after_n.ensures.text c.put_word_number.ensures.text; within = search rules }

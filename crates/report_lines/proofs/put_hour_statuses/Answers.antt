@@ -15,8 +15,8 @@ put_status_word-requires c = omega (arith, number_size c.args.hour c.ranges.hour
 
 pub returns : goal.returns
 returns c =
-    (
-      statuses _ _ _ c.put_number-after_hour.ensures c.put_status_word-after_fixed.ensures.0
-          c.put_status_word.ensures.0,
-      omega (arith, number_size c.args.hour c.ranges.hour.fits),
-    )
+    record {
+      text = statuses _ _ _ c.put_number-after_hour.ensures c.put_status_word-after_fixed.ensures.text
+          c.put_status_word.ensures.text;
+      within = omega (arith, number_size c.args.hour c.ranges.hour.fits);
+    }

@@ -6,4 +6,4 @@ use Rattle.report_lines.proofs.put_series.Goals as goal
 
 pub returns : goal.returns
 unfolding ascii
-returns c = (series _ _ _ c.put_unsigned-after_fixed.ensures.0 c.put_unsigned-after_applied.ensures.0 c.put_unsigned.ensures.0, search rules)
+returns c = record { text = series _ _ _ c.put_unsigned-after_fixed.ensures.text c.put_unsigned-after_applied.ensures.text c.put_unsigned.ensures.text; within = search rules }

@@ -7,8 +7,8 @@ use Rattle.report_lines.proofs.put_status_word.Goals as goal
 
 pub returns-then-status-eq-ESTIMATED : goal.returns-then-status-eq-ESTIMATED
 unfolding ascii
-returns-then-status-eq-ESTIMATED c = (put_as (is_estimated_lem _ c.if-status-eq-ESTIMATED.true) c.put_bytes.ensures, search rules)
+returns-then-status-eq-ESTIMATED c = record { text = put_as (is_estimated_lem _ c.if-status-eq-ESTIMATED.true) c.put_bytes.ensures; within = search rules }
 
 pub returns : goal.returns
 unfolding ascii
-returns c = (put_as (is_measured _ c.if-status-eq-ESTIMATED.false) c.put_bytes-2.ensures, search rules)
+returns c = record { text = put_as (is_measured _ c.if-status-eq-ESTIMATED.false) c.put_bytes-2.ensures; within = search rules }

@@ -16,18 +16,15 @@ pub loop-i-init : goal.loop-i-init
 loop-i-init c = go_start _ _ _ _ _
 
 pub bounds-smallest-i : goal.bounds-smallest-i
-bounds-smallest-i c = omega (arith, few c.requires.0)
+bounds-smallest-i c = omega (arith, few c.requires.distanced)
 
 pub bounds-largest-i : goal.bounds-largest-i
-bounds-largest-i c = omega (arith, few c.requires.0)
+bounds-largest-i c = omega (arith, few c.requires.distanced)
 
 pub one_party-end-requires : goal.one_party-end-requires
 one_party-end-requires c =
     let a : SFits w64 (get_or c.args.distances.smallest c.loop-i.i (pos 0)) = search rules in
-    let b : SFits w64 (get_or c.args.distances.largest c.loop-i.i (pos 0)) = search rules in (
-      party_asked c.requires.0 (omega arith) (to_z-of_z a) (to_z-of_z b),
-      go_room c.loop-i.invariant (omega arith) most_parties (few c.requires.0) (omega (arith, c.requires.1)),
-    )
+    let b : SFits w64 (get_or c.args.distances.largest c.loop-i.i (pos 0)) = search rules in record { asked = party_asked c.requires.distanced (omega arith) (to_z-of_z a) (to_z-of_z b); room = go_room c.loop-i.invariant (omega arith) most_parties (few c.requires.distanced) (omega (arith, c.requires.room)) }
 
 pub loop-i-preserved : goal.loop-i-preserved
 loop-i-preserved c = go_next c.loop-i.invariant (omega arith) c.one_party-end.ensures
@@ -36,4 +33,4 @@ pub shape_of-out : goal.shape_of-out
 shape_of-out c = put_length c.loop-i.invariant.put
 
 pub returns : goal.returns
-returns c = all_lines c.requires.0 (go_end c.loop-i.invariant (omega arith) most_parties (few c.requires.0))
+returns c = all_lines c.requires.distanced (go_end c.loop-i.invariant (omega arith) most_parties (few c.requires.distanced))

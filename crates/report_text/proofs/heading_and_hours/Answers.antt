@@ -4,16 +4,16 @@ use Rattle.report_text.proofs.heading_and_hours.Goals as goal
 
 pub hours_from-requires : goal.hours_from-requires
 hours_from-requires c =
-    (
-      c.requires.0,
+    let both = (
+      c.requires.known,
       (
-        first_inside _ _ c.requires.0.read c.requires.1.0,
-        room_for_hours _ _ c.requires.0.read c.requires.1.0 c.heading_line-after_heading.ensures.0
-            c.heading_line-after_heading.ensures.1 c.requires.1.1,
+        first_inside _ _ c.requires.known.read c.requires.first_asked.0,
+        room_for_hours _ _ c.requires.known.read c.requires.first_asked.0 c.heading_line-after_heading.ensures.text
+            c.heading_line-after_heading.ensures.within c.requires.first_asked.1,
       ),
-    )
+    ) in record { known = both.0; inside = both.1; hour_room_in_bounds = both.2 }
 
 pub returns : goal.returns
 returns c =
-    first_part_lem _ _ c.requires.0.read c.requires.1.0 c.heading_line-after_heading.ensures.0
-    c.heading_line-after_heading.ensures.1 c.hours_from.ensures
+    first_part_lem _ _ c.requires.known.read c.requires.first_asked.0 c.heading_line-after_heading.ensures.text
+    c.heading_line-after_heading.ensures.within c.hours_from.ensures

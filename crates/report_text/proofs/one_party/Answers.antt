@@ -5,16 +5,16 @@ use Rattle.text.proofs.Puts.{put_as}
 use Rattle.report_text.proofs.one_party.Goals as goal
 
 pub gln_of-name-requires : goal.gln_of-name-requires
-gln_of-name-requires c = gln_asked c.requires.0
+gln_of-name-requires c = gln_asked c.requires.asked
 
 pub distances_line-requires : goal.distances_line-requires
-distances_line-requires c = (name_fits c.requires.0 c.gln_of-name.ensures, c.requires.1)
+distances_line-requires c = (name_fits c.requires.asked c.gln_of-name.ensures, c.requires.room)
 
 pub returns : goal.returns
 returns c =
     record {
       put =
-          put_as (party_text c.requires.0 c.gln_of-name.ensures (to_z-of_z c.ranges.smallest) (to_z-of_z c.ranges.largest))
-          c.distances_line.ensures.0;
-      within = c.distances_line.ensures.1;
+          put_as (party_text c.requires.asked c.gln_of-name.ensures (to_z-of_z c.ranges.smallest) (to_z-of_z c.ranges.largest))
+          c.distances_line.ensures.text;
+      within = c.distances_line.ensures.within;
     }

@@ -29,11 +29,11 @@ returns-in_default-hours c =
 
 pub write_residuals-requires : goal.write_residuals-requires
 write_residuals-requires c =
-    (
-      all_judged _ _ _ _ _ _ c.residual_shape-shape.ensures c.in-Done.is c.flows_in_range-ranges.ensures c.in-Done-ranges.is
-          c.judge_hours-hours.ensures c.in-Done-hours.is,
-      shape_lent _ _ _ _ _ _ (accepted_by c.residual_shape-shape.ensures c.in-Done.is),
-    )
+    record {
+      judged = all_judged _ _ _ _ _ _ c.residual_shape-shape.ensures c.in-Done.is c.flows_in_range-ranges.ensures c.in-Done-ranges.is
+          c.judge_hours-hours.ensures c.in-Done-hours.is;
+      out_len = shape_lent _ _ _ _ _ _ (accepted_by c.residual_shape-shape.ensures c.in-Done.is);
+    }
 
 pub returns : goal.returns
 returns c =

@@ -13,14 +13,12 @@ use Rattle.residual_service.proofs.residual_at.Goals as goal
 pub residual_of-requires : goal.residual_of-requires
 unfolding at_ℤ at
 residual_of-requires c =
-    rw ((let a = c.args in
-    let f : SFits w64 (get_or a.nets.now a.t (pos 0)) = search rules in
+    rw ((let f : SFits w64 (get_or c.args.nets.now c.args.t (pos 0)) = search rules in
     to_z-of_z f)) c.requires.limits
 
 pub returns : goal.returns
 unfolding at_ℤ at
 returns c =
     rw (to_z-of_z (record { sfits = c.residual_of.type-inv }))
-    (c.residual_of.ensures ∙ rw ((let a = c.args in
-    let f : SFits w64 (get_or a.nets.now a.t (pos 0)) = search rules in
+    (c.residual_of.ensures ∙ rw ((let f : SFits w64 (get_or c.args.nets.now c.args.t (pos 0)) = search rules in
     to_z-of_z f)))

@@ -22,16 +22,14 @@ unfolding silent_check
 returns-then-not-silent_is_zero c =
     sym
     (look_stop c.loop-t.invariant (omega arith)
-    (stops _ _ ((    let nets = c.args.nets.now in
-    let f : SFits w64 (get_or nets c.loop-t.t (pos 0)) = search rules in
+    (stops _ _ ((let f : SFits w64 (get_or c.args.nets.now c.loop-t.t (pos 0)) = search rules in
     silent_said _ _ _ _ _ _ (to_z-of_z f) c.silent_is_zero.ensures)) c.if-not-silent_is_zero.true-raw))
 
 pub loop-t-preserved : goal.loop-t-preserved
 unfolding silent_check
 loop-t-preserved c =
     look_pass c.loop-t.invariant (omega arith)
-    (passes _ _ ((    let nets = c.args.nets.now in
-    let f : SFits w64 (get_or nets c.loop-t.t (pos 0)) = search rules in
+    (passes _ _ ((let f : SFits w64 (get_or c.args.nets.now c.loop-t.t (pos 0)) = search rules in
     silent_said _ _ _ _ _ _ (to_z-of_z f) c.silent_is_zero.ensures)) c.if-not-silent_is_zero.false-raw)
 
 pub returns : goal.returns

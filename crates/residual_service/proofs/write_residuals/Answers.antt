@@ -8,13 +8,13 @@ use native.Mathlib.Omega.{arith}
 use Rattle.residual_service.proofs.write_residuals.Goals as goal
 
 pub loop-t-init : goal.loop-t-init
-loop-t-init c = fill_start _ c.requires.1
+loop-t-init c = fill_start _ c.requires.out_len
 
 pub residual_at-wh-requires : goal.residual_at-wh-requires
-residual_at-wh-requires c = within_limits _ _ _ _ _ c.requires.0.ranged _ (omega arith)
+residual_at-wh-requires c = within_limits _ _ _ _ _ c.requires.judged.ranged _ (omega arith)
 
 pub overflow_cast-out : goal.overflow_cast-out
-overflow_cast-out c = written_fits _ _ _ _ _ c.requires.0 _ (omega arith) ((to_z-of_z (record { sfits = c.residual_at-wh.type-inv }) ∙ c.residual_at-wh.ensures))
+overflow_cast-out c = written_fits _ _ _ _ _ c.requires.judged _ (omega arith) ((to_z-of_z (record { sfits = c.residual_at-wh.type-inv }) ∙ c.residual_at-wh.ensures))
 
 pub loop-t-preserved : goal.loop-t-preserved
 loop-t-preserved c = fill_next c.loop-t.invariant (omega arith) (written_is _ _ _ _ _ _ ((to_z-of_z (record { sfits = c.residual_at-wh.type-inv }) ∙ c.residual_at-wh.ensures)))

@@ -16,11 +16,10 @@ put_loss-requires c = omega (arith, c.requires.losses_fit)
 
 pub returns : goal.returns
 returns c =
-    let given = c.args in
-    let fits : SFits w64 given.quantities.loss_wh = record { sfits = c.struct_told-1.given.1.1.1.0.1 } in
+    let fits : SFits w64 c.args.quantities.loss_wh = record { sfits = c.struct_told-1.given.1.1.1.0.1 } in
     record {
       distributed = c.put_figures.ensures.fills;
       periodised = c.put_wh.ensures.fills;
       differences = c.put_figures-2.ensures.fills;
-      losses = c.put_loss.ensures ∙ ap (λ (z : ℤ). set given.losses-wh.now given.j z) (to_z-of_z fits);
+      losses = c.put_loss.ensures ∙ ap (λ (z : ℤ). set c.args.losses_wh.now c.args.j z) (to_z-of_z fits);
     }

@@ -10,13 +10,11 @@ use Rattle.settle_c.proofs.settle_reconciliation.Goals as goal
 
 pub returns-in-Loss : goal.returns-in-Loss
 returns-in-Loss c =
-    let p = (let a = c.args in
-    let lists = c.reconciliation-answered.new.1.1.1.1.1 in
-    subst
+    let p = (subst
     (λ (price : ℤ).
-    Promised a.residual-wh a.distributed-wh.now a.periodised-wh.now a.carrier price a.differences-wh.now
-    a.amounts-millionths.now c.reconciliation-answered.result lists.0 lists.1.0)
-    (to_z-of_z c.ranges.price-ore)
+    Promised c.args.residual_wh c.args.distributed_wh.now c.args.periodised_wh.now c.args.carrier price c.args.differences_wh.now
+    c.args.amounts_millionths.now c.reconciliation-answered.result c.reconciliation-answered.new.1.1.1.1.1.0 c.reconciliation-answered.new.1.1.1.1.1.1.0)
+    (to_z-of_z c.ranges.price_ore)
     c.reconciliation-answered.ensures) in
     record {
       answer = code_given p c.in-Loss.is;
@@ -27,13 +25,11 @@ returns-in-Loss c =
 
 pub returns-in-Refused : goal.returns-in-Refused
 returns-in-Refused c =
-    let p = (let a = c.args in
-    let lists = c.reconciliation-answered.new.1.1.1.1.1 in
-    subst
+    let p = (subst
     (λ (price : ℤ).
-    Promised a.residual-wh a.distributed-wh.now a.periodised-wh.now a.carrier price a.differences-wh.now
-    a.amounts-millionths.now c.reconciliation-answered.result lists.0 lists.1.0)
-    (to_z-of_z c.ranges.price-ore)
+    Promised c.args.residual_wh c.args.distributed_wh.now c.args.periodised_wh.now c.args.carrier price c.args.differences_wh.now
+    c.args.amounts_millionths.now c.reconciliation-answered.result c.reconciliation-answered.new.1.1.1.1.1.0 c.reconciliation-answered.new.1.1.1.1.1.1.0)
+    (to_z-of_z c.ranges.price_ore)
     c.reconciliation-answered.ensures) in
     record {
       answer = code_refused p c.in-Refused.is c.code.ensures;

@@ -4,4 +4,4 @@ use borrow.Author.Rules.{rules}
 use Rattle.standard_input.proofs.bytes_read.Goals as goal
 
 pub returns : goal.returns
-returns c = (filled_part c.args.buffer.now c.args.input.filled, search (rules, fully_read))
+returns c = record { bytes = filled_part c.args.buffer.now c.args.input.filled; full = search (rules, fully_read) }

@@ -6,8 +6,11 @@ use Rattle.standard_input.proofs.read_month.Goals as goal
 
 pub overflow_add-filled : goal.overflow_add-filled
 overflow_add-filled c =
-    omega (arith, ((turn c.read_piece-piece.new.0 c.loop-filled.invariant c.buffer-1.given c.in-Bytes.is
-    c.read_piece-piece.ensures)).room)
+    omega (
+      arith,
+      ((turn c.read_piece-piece.new.0 c.loop-filled.invariant c.buffer-1.given c.in-Bytes.is
+          c.read_piece-piece.ensures)).room,
+    )
 
 pub loop-filled-smaller : goal.loop-filled-smaller
 loop-filled-smaller c =
@@ -20,4 +23,4 @@ loop-filled-preserved c =
     c.read_piece-piece.ensures)).again
 
 pub returns : goal.returns
-returns c = full c.read_past-ending.result c.loop-filled.invariant c.loop-filled-test.false
+returns c = let both = full c.read_past-ending.result c.loop-filled.invariant c.loop-filled-test.false in record { within = both.0; full = both.1 }

@@ -10,8 +10,8 @@ returns-in-Whole c = no_line _ (ap (λ (e : Ending). ended_text (ended e)) c.in-
 
 pub returns-in-TooLong : goal.returns-in-TooLong
 returns-in-TooLong c =
-    line_put (ap (λ (e : Ending). ended_text (ended e)) c.in-TooLong.is) c.put_refusal.ensures.0
-    c.put_refusal.ensures.1
+    line_put (ap (λ (e : Ending). ended_text (ended e)) c.in-TooLong.is) c.put_refusal.ensures.text
+    c.put_refusal.ensures.within
 
 pub returns-in-Failed : goal.returns-in-Failed
 returns-in-Failed c = no_line _ (ap (λ (e : Ending). ended_text (ended e)) c.in-Failed.is)

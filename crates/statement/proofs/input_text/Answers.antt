@@ -5,4 +5,4 @@ use Rattle.statement_input.proofs.Texts.{input_printed}
 use Rattle.statement.proofs.input_text.Goals as goal
 
 pub returns : goal.returns
-returns c = input_printed per_party final _ c.args.ending c.requires.0 c.input_text.ensures
+returns c = let both = input_printed per_party final _ c.args.ending c.requires.fully_read c.input_text.ensures in record { within = both.0; text = both.1 }

@@ -5,8 +5,8 @@ use Rattle.statement_lines.proofs.columns_line.Goals as goal
 
 pub returns : goal.returns
 returns c =
-    (
-      columns c.ranges.distributed-wh c.ranges.loss-wh c.ranges.difference-wh c.ranges.ore _ _
-          c.put_name_energies-results.ensures.0 c.put_results.ensures.0,
-      search rules,
-    )
+    record {
+      text = columns c.ranges.distributed_wh c.ranges.loss_wh c.ranges.difference_wh c.ranges.ore _ _
+          c.put_name_energies-results.ensures.text c.put_results.ensures.text;
+      within = search rules;
+    }

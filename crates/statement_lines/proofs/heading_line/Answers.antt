@@ -5,8 +5,8 @@ use Rattle.statement_lines.proofs.heading_line.Goals as goal
 
 pub returns : goal.returns
 returns c =
-    (
-      heading _ _ _ _ _ _ _ c.put_area_month-counts.ensures.0 c.put_counts-ending.ensures.0
-          c.put_ending.ensures.0,
-      search rules,
-    )
+    record {
+      text = heading _ _ _ _ _ _ _ c.put_area_month-counts.ensures.text c.put_counts-ending.ensures.text
+          c.put_ending.ensures.text;
+      within = search rules;
+    }

@@ -7,8 +7,8 @@ use Rattle.statement_lines.proofs.put_area_month.Goals as goal
 pub returns : goal.returns
 unfolding ascii
 returns c =
-    (
-      area_month_lem _ _ _ c.put_word_width-after_area.ensures.0 c.put_unsigned-after_year.ensures.0
-          c.put_word_width.ensures.0,
-      search rules,
-    )
+    record {
+      text = area_month_lem _ _ _ c.put_word_width-after_area.ensures.text c.put_unsigned-after_year.ensures.text
+          c.put_word_width.ensures.text;
+      within = search rules;
+    }

@@ -7,8 +7,8 @@ use Rattle.statement_lines.proofs.put_counts.Goals as goal
 pub returns : goal.returns
 unfolding ascii
 returns c =
-    (
-      counts _ _ _ c.put_word_number-after_hours.ensures.0 c.put_word_number-after_parties.ensures.0
-          c.put_word_number.ensures.0,
-      search rules,
-    )
+    record {
+      text = counts _ _ _ c.put_word_number-after_hours.ensures.text c.put_word_number-after_parties.ensures.text
+          c.put_word_number.ensures.text;
+      within = search rules;
+    }

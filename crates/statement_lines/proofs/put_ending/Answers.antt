@@ -7,8 +7,8 @@ use Rattle.statement_lines.proofs.put_ending.Goals as goal
 
 pub returns-then-refixed-eq0 : goal.returns-then-refixed-eq0
 unfolding ascii newline
-returns-then-refixed-eq0 c = (unrefixed c.if-refixed-eq0.true c.put_bytes.ensures, search rules)
+returns-then-refixed-eq0 c = record { text = unrefixed c.if-refixed-eq0.true c.put_bytes.ensures; within = search rules }
 
 pub returns : goal.returns
 unfolding ascii newline
-returns c = (refixed_line c.if-refixed-eq0.false c.put_bytes-2.ensures, search rules)
+returns c = record { text = refixed_line c.if-refixed-eq0.false c.put_bytes-2.ensures; within = search rules }

@@ -4,4 +4,4 @@ use borrow.Author.Rules.{rules}
 use Rattle.statement_lines.proofs.put_name_energies.Goals as goal
 
 pub returns : goal.returns
-returns c = (name_energies_lem c.ranges.distributed-wh _ c.put_bytes-after_name.ensures c.put_energies.ensures.0, search rules)
+returns c = record { text = name_energies_lem c.ranges.distributed_wh _ c.put_bytes-after_name.ensures c.put_energies.ensures.text; within = search rules }

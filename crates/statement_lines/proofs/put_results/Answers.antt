@@ -7,8 +7,8 @@ use Rattle.statement_lines.proofs.put_results.Goals as goal
 pub returns : goal.returns
 unfolding newline
 returns c =
-    (
-      results c.ranges.loss-wh c.ranges.difference-wh c.ranges.ore c.put_column-after_loss.ensures.0
-          c.put_column-after_difference.ensures.0 c.put_column-after_ore.ensures.0 c.put_bytes.ensures,
-      search rules,
-    )
+    record {
+      text = results c.ranges.loss_wh c.ranges.difference_wh c.ranges.ore c.put_column-after_loss.ensures.text
+          c.put_column-after_difference.ensures.text c.put_column-after_ore.ensures.text c.put_bytes.ensures;
+      within = search rules;
+    }

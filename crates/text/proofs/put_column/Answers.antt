@@ -6,4 +6,4 @@ use Rattle.text.proofs.put_column.Goals as goal
 
 pub returns : goal.returns
 unfolding ascii
-returns c = (column c.ranges.z c.put_bytes-number.ensures c.put_signed.ensures.0, search rules)
+returns c = record { text = column c.ranges.z c.put_bytes-number.ensures c.put_signed.ensures.text; within = search rules }

@@ -4,4 +4,4 @@ use borrow.Author.Rules.{rules}
 use Rattle.text.proofs.put_energies.Goals as goal
 
 pub returns : goal.returns
-returns c = (energies c.ranges.distributed-wh _ c.put_column-after_distributed.ensures.0 c.put_unsigned.ensures.0, search rules)
+returns c = record { text = energies c.ranges.distributed_wh _ c.put_column-after_distributed.ensures.text c.put_unsigned.ensures.text; within = search rules }

@@ -7,16 +7,16 @@ use Rattle.text.proofs.RefusalLine.{number_ends, refusal_text_lem}
 use Rattle.text.proofs.put_refusal.Goals as goal
 
 pub put_word_number-after_place-requires : goal.put_word_number-after_place-requires
-put_word_number-after_place-requires c = omega (arith, (    number_ends (named c.args.refusal) c.number-number.ensures c.put_word_number-after_number.ensures.0))
+put_word_number-after_place-requires c = omega (arith, (number_ends (named c.args.refusal) c.number-number.ensures c.put_word_number-after_number.ensures.text))
 
 pub put_bytes-requires : goal.put_bytes-requires
-put_bytes-requires c = omega (arith, (    number_ends (named c.args.refusal) c.number-number.ensures c.put_word_number-after_number.ensures.0))
+put_bytes-requires c = omega (arith, (number_ends (named c.args.refusal) c.number-number.ensures c.put_word_number-after_number.ensures.text))
 
 pub returns : goal.returns
 unfolding ascii newline
 returns c =
-    (
-      refusal_text_lem (named c.args.refusal) c.number-number.ensures c.put_word_number-after_number.ensures.0 _
-          c.put_word_number-after_place.ensures.0 c.put_bytes.ensures,
-      omega (arith, (    number_ends (named c.args.refusal) c.number-number.ensures c.put_word_number-after_number.ensures.0)),
-    )
+    record {
+      text = refusal_text_lem (named c.args.refusal) c.number-number.ensures c.put_word_number-after_number.ensures.text _
+          c.put_word_number-after_place.ensures.text c.put_bytes.ensures;
+      within = omega (arith, (number_ends (named c.args.refusal) c.number-number.ensures c.put_word_number-after_number.ensures.text));
+    }

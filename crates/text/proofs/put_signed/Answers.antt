@@ -9,18 +9,14 @@ put_number-requires c = omega (arith, signed_size c.ranges.z c.size-n.ensures)
 
 pub returns-then-z-lt0 : goal.returns-then-z-lt0
 returns-then-z-lt0 c =
-    (
-      put_as (minus_text c.ranges.z c.if-z-lt0.true c.size-n.ensures)
-          (put_then c.put_bytes-digits.ensures c.put_number.ensures),
-      omega (arith, signed_size c.ranges.z c.size-n.ensures),
-    )
+    record {
+      text = put_as (minus_text c.ranges.z c.if-z-lt0.true c.size-n.ensures)
+          (put_then c.put_bytes-digits.ensures c.put_number.ensures);
+      within = omega (arith, signed_size c.ranges.z c.size-n.ensures);
+    }
 
 pub put_number-requires-2 : goal.put_number-requires-2
 put_number-requires-2 c = omega (arith, signed_size c.ranges.z c.size-n.ensures)
 
 pub returns : goal.returns
-returns c =
-    (
-      put_as (plain_text c.ranges.z c.if-z-lt0.false c.size-n.ensures) c.put_number-2.ensures,
-      omega (arith, signed_size c.ranges.z c.size-n.ensures),
-    )
+returns c = record { text = put_as (plain_text c.ranges.z c.if-z-lt0.false c.size-n.ensures) c.put_number-2.ensures; within = omega (arith, signed_size c.ranges.z c.size-n.ensures) }

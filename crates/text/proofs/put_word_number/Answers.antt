@@ -8,4 +8,4 @@ pub put_number-requires : goal.put_number-requires
 put_number-requires c = omega (arith, number_size c.args.n c.ranges.n.fits)
 
 pub returns : goal.returns
-returns c = (put_then c.put_bytes-digits.ensures c.put_number.ensures, omega (arith, number_size c.args.n c.ranges.n.fits))
+returns c = record { text = put_then c.put_bytes-digits.ensures c.put_number.ensures; within = omega (arith, number_size c.args.n c.ranges.n.fits) }

@@ -5,4 +5,4 @@ use Rattle.text.proofs.Digits.{width_size}
 use Rattle.text.proofs.put_word_width.Goals as goal
 
 pub returns : goal.returns
-returns c = (put_then c.put_bytes-digits.ensures c.put_width.ensures, omega (arith, width_size c.args.width c.args.n))
+returns c = record { text = put_then c.put_bytes-digits.ensures c.put_width.ensures; within = omega (arith, width_size c.args.width c.args.n) }

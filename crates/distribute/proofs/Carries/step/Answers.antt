@@ -12,25 +12,22 @@ overflow_add-left c = omega (arith, S.left_few c.requires c.grown_by-grown.ensur
 
 pub total-requires : goal.total-requires
 total-requires c =
-    let pre = c.requires in
-    let few = S.quotients_few pre c.grown_by-grown.ensures c.divide-parts.ensures in
-    let left = S.left_few pre c.grown_by-grown.ensures c.divide-parts.ensures in
-    (search rules, omega (arith, few, left, pre.sum_fits))
+    let few = S.quotients_few c.requires c.grown_by-grown.ensures c.divide-parts.ensures in
+    let left = S.left_few c.requires c.grown_by-grown.ensures c.divide-parts.ensures in
+    (search rules, omega (arith, few, left, c.requires.sum_fits))
 
 pub overflow_sub-left : goal.overflow_sub-left
 overflow_sub-left c = omega (arith, c.total.ensures, S.quotients_few c.requires c.grown_by-grown.ensures c.divide-parts.ensures)
 
 pub figures_of-figures-requires : goal.figures_of-figures-requires
 figures_of-figures-requires c =
-    let pre = c.requires in
-    let left = S.left_is pre c.grown_by-grown.ensures c.divide-parts.ensures c.total.ensures in
-    (search rules, S.parts_small pre c.grown_by-grown.ensures c.divide-parts.ensures left c.one_each-extra.ensures)
+    let left = S.left_is c.requires c.grown_by-grown.ensures c.divide-parts.ensures c.total.ensures in
+    (search rules, S.parts_small c.requires c.grown_by-grown.ensures c.divide-parts.ensures left c.one_each-extra.ensures)
 
 pub overflow_add-result : goal.overflow_add-result
 overflow_add-result c = omega (arith, c.requires.sum_fits)
 
 pub returns : goal.returns
 returns c =
-    let pre = c.requires in
-    let left = S.left_is pre c.grown_by-grown.ensures c.divide-parts.ensures c.total.ensures in
-    S.next pre c.grown_by-grown.ensures c.divide-parts.ensures left c.one_each-extra.ensures c.figures_of-figures.ensures
+    let left = S.left_is c.requires c.grown_by-grown.ensures c.divide-parts.ensures c.total.ensures in
+    S.next c.requires c.grown_by-grown.ensures c.divide-parts.ensures left c.one_each-extra.ensures c.figures_of-figures.ensures

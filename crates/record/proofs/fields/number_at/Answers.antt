@@ -16,4 +16,4 @@ pub loop-k-preserved : goal.loop-k-preserved
 loop-k-preserved c = gather_next c.loop-k.invariant (omega arith) c.wide.ensures.0 c.wide.ensures.1
 
 pub returns : goal.returns
-returns c = gathered c.loop-k.invariant (omega arith)
+returns c = let both = gathered c.loop-k.invariant (omega arith) in record { value = both.0; bound = both.1 }
