@@ -33,11 +33,11 @@ hour_of-t-requires c = add_asks c.requires.part c.loop-i.invariant c.loop-i-test
 
 pub overflow_add-out : goal.overflow_add-out
 unfolding at
-overflow_add-out c = omega (arith, add_fits c.requires.part c.loop-i.invariant c.loop-i-test.taken c.hour_of-t.ensures c.wide.ensures c.requires.room)
+overflow_add-out c = omega (arith, add_fits c.requires.part c.loop-i.invariant c.loop-i-test.true c.hour_of-t.ensures c.wide.ensures c.requires.room)
 
 pub loop-i-preserved : goal.loop-i-preserved
 unfolding at
-loop-i-preserved c = add_next c.requires.part c.loop-i.invariant c.loop-i-test.taken c.hour_of-t.ensures c.wide.ensures
+loop-i-preserved c = add_next c.requires.part c.loop-i.invariant c.loop-i-test.true c.hour_of-t.ensures c.wide.ensures
 
 pub returns : goal.returns
 returns c = add_end c.requires.part c.loop-i.invariant (omega arith)

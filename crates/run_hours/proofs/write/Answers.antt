@@ -66,7 +66,7 @@ loop-walk-smaller-then-start-t c =
 pub loop-walk-preserved-then-start-t : goal.loop-walk-preserved-then-start-t
 loop-walk-preserved-then-start-t c =
     let known = run_known c.requires.run_ready refl c.applied-applied_wh.ensures in
-    goes_written known c.requires.run_lent.inside c.loop-walk.invariant (omega arith) c.step-walk.ensures (omega (arith, c.if-start-t.taken))
+    goes_written known c.requires.run_lent.inside c.loop-walk.invariant (omega arith) c.step-walk.ensures (omega (arith, c.if-start-t.true))
     c.quantities-quantities.ensures
     c.put_hour.ensures
 
