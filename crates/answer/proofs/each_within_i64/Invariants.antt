@@ -1,8 +1,6 @@
 -- `answer::each_within_i64` meets its contract: what is left of the list says what the whole says. Assumes nothing.
 use Prim.Native.Nat.{◌-◌}
 use lib.ListN.{length}
-use mir.Syntax.{w64}
-use mir.Val.{to_z}
 use Rattle.answer.specs.Ranges.{between_ℤ}
 use Rattle.answer.specs.Said.{named}
 use Rattle.rules.specs.Services.{check_at_ℤ}
@@ -10,7 +8,7 @@ use Rattle.rules.proofs.Loops.{Looking}
 use Rattle.answer.proofs.each_within_i64.Given as goal
 
 abbrev pub invariant-loop-i : goal.invariant-loop-i
-invariant-loop-i l = Looking (check_at_ℤ l.figures (between_ℤ (to_z w64 l.lowest) (to_z w64 l.greatest)) (named l.otherwise)) (length l.figures) l.i
+invariant-loop-i l = Looking (check_at_ℤ l.figures (between_ℤ l.lowest l.greatest) (named l.otherwise)) (length l.figures) l.i
 
 abbrev pub decreases-loop-i : goal.decreases-loop-i
 decreases-loop-i l = length l.figures - l.i
