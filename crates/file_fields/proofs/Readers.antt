@@ -49,7 +49,10 @@ one_size [] all = tt
 one_size (q ∷ later) all =
     let k : ℕ = R.party_kind_of q.brp in
     let alike = of_one_kind k q later refl all in
-    rw (kind_of_all k q later refl alike) (of_one_size k (q ∷ later) (refl, alike))
+    subst
+    (λ (n : ℕ). W.Every (λ (p : R.Party). 1 + length_of (R.party p) ≡ 1 + R.body_length n) (q ∷ later))
+    (sym (kind_of_all k q later refl alike))
+    (of_one_size k (q ∷ later) (refl, alike))
 
 -- Where the records of an accepted file stand, by its sections.
 module _ (file : List ℕ) (s : Sections) (ok : Accepted file s) where

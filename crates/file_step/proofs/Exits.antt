@@ -1,14 +1,10 @@
 -- The exits of a step, each with its answer: what it means for the month read so far, and how far it moves.
 use mathlib.Core.Bool.{Bool, true, false, cond, not}
-use mathlib.Core.List.{List, [], ◌∷◌}
-use mathlib.Core.Logic.{◌⊎◌, ⊎_elim}
+use mathlib.Core.List.{List}
 use mathlib.Core.Path.{◌≡◌, refl, sym, ◌∙◌, ap, ap₂, subst}
 use Prim.Native.Nat.{ℕ, ◌+◌, ◌≤◌, ◌<◌}
 use native.Mathlib.Omega.{arith}
 use borrow.Author.Tests.{not-true, not-false, le-leb}
-use types.Run.{OneOf}
-use denote.Enum.Declared.{tag_of}
-use Rattle.record.specs.contracts.Record as RecordType
 use lib.Dec.{eqb}
 use lib.ListN.{length, get_or, drop}
 use Rattle.answer.specs.Said.{said}
@@ -75,23 +71,17 @@ pub of_a_party :
 of_a_party w gln size is tested e =
     e ∙ ap₂ (λ (x : Record) (g : Gln). risen_in w x g size) is tested ∙ sym (ap (λ (x : Record). judged_in w x gln size) is)
 
--- a number is none of five others
-none_of : (k : ℕ) {a b c d e : ℕ} → (k ≡ a → ⊥) → (k ≡ b → ⊥) → (k ≡ c → ⊥) → (k ≡ d → ⊥) → (k ≡ e → ⊥)
-    → (k ≡ a) ⊎ ((k ≡ b) ⊎ ((k ≡ c) ⊎ ((k ≡ d) ⊎ (k ≡ e))))
-    → ⊥
-none_of k na nb nc nd ne t = ⊎_elim na (⊎_elim nb (⊎_elim nc (⊎_elim nd ne))) t
-
--- The kinds that have no check left go on: those that a match on a party and an end leaves, numbered as the variants stand in `record::Record`.
+-- The kinds that have no check left go on: those that a match on a party and an end leaves.
 pub others :
-    (w : Walk) (gln : List ℕ) (size : ℕ) (r : Record) → OneOf (0 ∷ 2 ∷ 3 ∷ 4 ∷ 5 ∷ []) (tag_of RecordType.the_type r)
+    (w : Walk) (gln : List ℕ) (size : ℕ) (r : Record) → ((brp : Brp) (share : ℕ) → r ≡ Party brp share → ⊥) → ((count : ℕ) → r ≡ End count → ⊥)
     → moved_in w r 0 size ≡ judged_in w r gln size
-others w gln size (Heading h) t = refl
-others w gln size (Party brp share) t = absurd (none_of 1 (λ q. omega arith) (λ q. omega arith) (λ q. omega arith) (λ q. omega arith) (λ q. omega arith) t)
-others w gln size (FixedHour hour f) t = refl
-others w gln size (Reading r) t = refl
-others w gln size (Price hour p) t = refl
-others w gln size (RefixedHour hour f) t = refl
-others w gln size (End count) t = absurd (none_of 6 (λ q. omega arith) (λ q. omega arith) (λ q. omega arith) (λ q. omega arith) (λ q. omega arith) t)
+others w gln size (Heading h) no_party no_end = refl
+others w gln size (Party brp share) no_party no_end = absurd (no_party brp share refl)
+others w gln size (FixedHour hour f) no_party no_end = refl
+others w gln size (Reading r) no_party no_end = refl
+others w gln size (Price hour p) no_party no_end = refl
+others w gln size (RefixedHour hour f) no_party no_end = refl
+others w gln size (End count) no_party no_end = absurd (no_end count refl)
 
 -- What is known after each test of a step. The kind's body has so many bytes:
 pub record Sized (w : Walk) (bytes : List ℕ) (size : ℕ) : Type 0 where

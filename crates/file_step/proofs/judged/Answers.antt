@@ -12,4 +12,4 @@ pub returns-in-End : goal.returns-in-End
 returns-in-End c = rw c.in-End.is c.counted.ensures
 
 pub returns-in_default : goal.returns-in_default
-returns-in_default c = c.moved.ensures ∙ others c.args.w (glns_in c.args.rest.now).gln c.args.size c.args.r c.in_default.keys3
+returns-in_default c = c.moved.ensures ∙ others c.args.w (glns_in c.args.rest.now).gln c.args.size c.args.r c.in_default.not-Party c.in_default.not-End
