@@ -1,5 +1,6 @@
 -- `periodise::total` meets its contract: the loop keeps the sum of the figures passed, which is less than 2 ^ 32 for each of them. Assumes nothing.
 use native.Mathlib.Omega.{arith}
+use borrow.Author.Rules.{rules}
 use Rattle.periodise.proofs.Summing.{sum_start, sum_fits, sum_next, sum_end}
 use Rattle.periodise.proofs.total.Goals as goal
 
@@ -7,10 +8,10 @@ pub loop-i-init : goal.loop-i-init
 loop-i-init c = sum_start _
 
 pub overflow_add-sum_so_far : goal.overflow_add-sum_so_far
-overflow_add-sum_so_far c = omega (arith, sum_fits c.loop-i.invariant c.requires c.loop-i-test.true c.wide-sum_so_far.ensures (c.shared_slice_known-in-loop-i-1.given _))
+overflow_add-sum_so_far c = omega (arith, sum_fits c.loop-i.invariant c.requires c.loop-i-test.true c.wide-sum_so_far.ensures (search rules))
 
 pub loop-i-preserved : goal.loop-i-preserved
-loop-i-preserved c = sum_next c.loop-i.invariant c.loop-i-test.true c.wide-sum_so_far.ensures (c.shared_slice_known-in-loop-i-1.given _)
+loop-i-preserved c = sum_next c.loop-i.invariant c.loop-i-test.true c.wide-sum_so_far.ensures (search rules)
 
 pub returns : goal.returns
 returns c = sum_end c.loop-i.invariant (omega arith)
