@@ -5,11 +5,8 @@ use mathlib.Core.Path.{◌≡◌, refl}
 use Prim.Native.Nat.{ℕ, zero, suc}
 use native.Mathlib.Omega.{arith}
 use borrow.Author.Tests.{ltb-true, ltb-false, le-leb, lt-leb}
-use lib.Dec.{T}
 use lib.IntN.{ℤ, pos, negsuc, nat_abs}
-use lib.Signed.{lt_z, non_neg}
-use mir.Syntax.{w32}
-use mir.Val.{Fits}
+use lib.Signed.{lt_z}
 use Rattle.rules.specs.Flows.{judged_by, figure, no_figure}
 use Rattle.rules.specs.Limits.{greatest_residual}
 use Rattle.rules.specs.Refusals.{missing_hour, residual_negative, residual_too_large}
@@ -37,8 +34,3 @@ unfolding judged_by
 is_too_large zero r present low high = absurd (present refl)
 is_too_large (suc status) (pos n) present low high = rw (lt-leb n greatest_residual (omega (arith, ltb-false n (suc greatest_residual) high)))
 is_too_large (suc status) (negsuc n) present low high = absurd (true_not_false low)
-
--- a figure fits 32 bits
-pub figure_fits : (r : ℤ) → lt_z r (pos 0) ≡ false → lt_z r (pos (suc greatest_residual)) ≡ true → T (non_neg r) × Fits w32 (nat_abs r)
-figure_fits (pos n) low high = (tt, record { fits = omega (arith, ltb-true n (suc greatest_residual) high) })
-figure_fits (negsuc n) low high = absurd (true_not_false low)
