@@ -1,10 +1,14 @@
 -- `residual_service::judge_hours` meets its contract: what is left of the hours says what the whole says. Assumes nothing.
 use mathlib.Core.Path.{sym, ◌∙◌, ap}
+use native.Mathlib.Omega.{arith}
+use borrow.Author.Rules.{rules}
 use mir.Facts.{to_z-of_z}
+use mir.Syntax.{w64}
+use mir.Val.{SFits}
 use Rattle.answer.specs.Said.{said}
+use Rattle.rules.specs.Words.{at}
 use Rattle.rules.proofs.Loops.{look_start, look_pass, look_stop, look_end}
 use Rattle.residual_service.proofs.Hours.{within_limits, hour_said}
-use native.Mathlib.Omega.{arith}
 use Rattle.residual_service.proofs.judge_hours.Goals as goal
 
 pub loop-t-init : goal.loop-t-init
@@ -14,22 +18,18 @@ pub residual_at-wh-requires : goal.residual_at-wh-requires
 residual_at-wh-requires c = within_limits _ _ _ _ _ c.requires _ (omega arith)
 
 pub returns-in_default : goal.returns-in_default
+unfolding at
 returns-in_default c =
-    ap said c.in_default.is
-    ∙ sym
-    (look_stop c.loop-t.invariant (omega arith)
-    (sym ((hour_said _ _ _ _ _ _ c.judge-hour.result c.answer_of-here.result c.residual_at-wh.ensures
-    (to_z-of_z (record { sfits = c.residual_at-wh.type-inv }))
-    c.judge-hour.ensures
-    c.answer_of-here.ensures)) ∙ ap said c.in_default.is))
+    let f : SFits w64 c.residual_at-wh.result = search rules in
+    let here = hour_said c.args.statuses.now _ _ _ _ _ c.judge-hour.result c.answer_of-here.result c.residual_at-wh.ensures (to_z-of_z f) c.judge-hour.ensures c.answer_of-here.ensures in
+    ap said c.in_default.is ∙ sym (look_stop c.loop-t.invariant (omega arith) (sym here ∙ ap said c.in_default.is))
 
 pub loop-t-preserved : goal.loop-t-preserved
+unfolding at
 loop-t-preserved c =
-    look_pass c.loop-t.invariant (omega arith)
-    (sym ((hour_said _ _ _ _ _ _ c.judge-hour.result c.answer_of-here.result c.residual_at-wh.ensures
-    (to_z-of_z (record { sfits = c.residual_at-wh.type-inv }))
-    c.judge-hour.ensures
-    c.answer_of-here.ensures)) ∙ ap said c.in-Done.is)
+    let f : SFits w64 c.residual_at-wh.result = search rules in
+    let here = hour_said c.args.statuses.now _ _ _ _ _ c.judge-hour.result c.answer_of-here.result c.residual_at-wh.ensures (to_z-of_z f) c.judge-hour.ensures c.answer_of-here.ensures in
+    look_pass c.loop-t.invariant (omega arith) (sym here ∙ ap said c.in-Done.is)
 
 pub returns : goal.returns
 returns c = sym (look_end c.loop-t.invariant (omega arith))
