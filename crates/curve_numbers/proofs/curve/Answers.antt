@@ -8,9 +8,9 @@ use Rattle.curve_numbers.proofs.curve.Goals as goal
 pub returns-in_default : goal.returns-in_default
 returns-in_default c =
     record {
-  answer = pass_refuses _ c.curve_shape-shape.ensures c.in_default.is
-      ∙ in_parts _ _ _;
-  contents = unwritten _ _ c.in_default.is;
+      answer = pass_refuses _ c.curve_shape-shape.ensures c.in_default.is ∙ in_parts _ _ _;
+      contents = unwritten _ _ c.in_default.is;
+    }
 
 pub returns-in_default-large : goal.returns-in_default-large
 returns-in_default-large c =
@@ -36,10 +36,13 @@ returns-in_default-fit c =
 
 pub write_curve-requires : goal.write_curve-requires
 write_curve-requires c =
-    record { curve_ready = record {
+    record {
+      curve_ready = record {
         some = shape_w _ _ _ (accepted_by c.curve_shape-shape.ensures c.in-Done.is);
         fitting = (accepted_by c.curve_numbers_fit-fit.ensures c.in-Done-fit.is);
-      }; out_len = shape_lent _ _ _ (accepted_by c.curve_shape-shape.ensures c.in-Done.is) }
+      };
+      out_len = shape_lent _ _ _ (accepted_by c.curve_shape-shape.ensures c.in-Done.is);
+    }
 
 pub returns : goal.returns
 unfolding afterwards
