@@ -1,7 +1,6 @@
 -- The rule of a record's fields stands once: what the code tests of the fields, with the GLN tested already, is what the rules test.
 use mathlib.Core.Bool.{Bool, true, false, cond, not, ◌&&◌}
 use mathlib.Core.List.{List, [], ◌∷◌}
-use mathlib.Core.Logic.{◌⊎◌, ⊎_elim}
 use mathlib.Core.Path.{◌≡◌, refl, sym, ◌∙◌, ap, ap₂}
 use Prim.Native.Nat.{ℕ, zero, suc, ◌≤◌, ◌<◌}
 use native.Mathlib.Omega.{arith}
@@ -9,8 +8,6 @@ use borrow.Author.Tests.{lt-ltb, le-ltb, le-leb, lt-leb}
 use lib.Dec.{leb, ltb, eqb, leb-zero, leb-suc-zero, eqb-suc-zero}
 use lib.IntN.{ℤ, pos, negsuc, nat_abs}
 use lib.Signed.{le_z}
-use types.Run.{OneOf}
-use denote.Enum.Declared.{tag_of}
 use mir.Facts.{to_z-of_z}
 use mir.Syntax.{w64}
 use mir.Val.{SFits, to_z, of_z}
@@ -20,7 +17,6 @@ use Rattle.gln.specs.declared.Gln.{Gln}
 use Rattle.gln.specs.declared.Gln.TheVariants.{Valid, Invalid}
 use Rattle.record.specs.Record.{heading_of, flows_of, Glns, glns, no_glns, glns_in}
 use Rattle.record_rule.specs.Judged.{fault_of}
-use Rattle.record.specs.contracts.Record as RecordType
 use Rattle.record.specs.declared.Record.{Record}
 use Rattle.record.specs.declared.Record.TheVariants.{Heading, Party, FixedHour, Reading, Price, RefixedHour, End}
 use Rattle.record.specs.declared.Brp as CBrp
@@ -105,20 +101,13 @@ pub party_in_part :
 party_in_part hours parties place part brp share gln_is brp-is e =
     e ∙ ap₂ (λ (g b : List ℕ). fault_of 0 0 (glns g b) (Party brp share) place) gln_is brp-is ∙ party_anywhere hours parties place (glns_in part) brp share
 
--- a number is none of six others
-none_of : (k : ℕ) {a b c d e f : ℕ} → (k ≡ a → ⊥) → (k ≡ b → ⊥) → (k ≡ c → ⊥) → (k ≡ d → ⊥) → (k ≡ e → ⊥) → (k ≡ f → ⊥)
-    → (k ≡ a) ⊎ ((k ≡ b) ⊎ ((k ≡ c) ⊎ ((k ≡ d) ⊎ ((k ≡ e) ⊎ (k ≡ f)))))
-    → ⊥
-none_of k na nb nc nd ne nf t = ⊎_elim na (⊎_elim nb (⊎_elim nc (⊎_elim nd (⊎_elim ne nf)))) t
-
--- nor do a record's GLNs, where it is no party: one of the variants that a match on a party leaves, numbered as they stand in `record::Record`
+-- nor do a record's GLNs, where it is no party
 pub no_gln_looked_at :
-    (hours parties place : ℕ) (beside other : Glns) (r : Record) → OneOf (0 ∷ 2 ∷ 3 ∷ 4 ∷ 5 ∷ 6 ∷ []) (tag_of RecordType.the_type r)
+    (hours parties place : ℕ) (beside other : Glns) (r : Record) → ((brp : CBrp.Brp) (share : ℕ) → r ≡ Party brp share → ⊥)
     → fault_of hours parties beside r place ≡ fault_of hours parties other r place
 unfolding fault_of checks
 no_gln_looked_at hours parties place beside other (Heading h) t = refl
-no_gln_looked_at hours parties place beside other (Party brp share) t =
-    absurd (none_of 1 (λ q. omega arith) (λ q. omega arith) (λ q. omega arith) (λ q. omega arith) (λ q. omega arith) (λ q. omega arith) t)
+no_gln_looked_at hours parties place beside other (Party brp share) t = absurd (t brp share refl)
 no_gln_looked_at hours parties place beside other (FixedHour hour f) t = refl
 no_gln_looked_at hours parties place beside other (Reading r) t = refl
 no_gln_looked_at hours parties place beside other (Price hour p) t = refl

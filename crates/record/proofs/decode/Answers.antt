@@ -56,7 +56,7 @@ brp_share_in-requires c = omega (arith, stands c.requires brp_party_kind c.in-18
 
 pub u32_at-requires : goal.u32_at-requires
 unfolding body_lengths
-u32_at-requires c = omega (arith, stands c.requires end_kind (end_kind_lem c.requires c.in_default.rest))
+u32_at-requires c = omega (arith, stands c.requires end_kind (end_kind_lem c.requires (search rules)))
 
 pub returns-in-1 : goal.returns-in-1
 returns-in-1 c = c.heading_in.ensures ∙ as_at c.requires heading_kind c.in-1.is
@@ -93,4 +93,4 @@ returns-in-18 c =
     (brp_party_is _ (omega (arith, stands c.requires brp_party_kind c.in-18.is)) ∙ as_at c.requires brp_party_kind c.in-18.is)
 
 pub returns-in_default : goal.returns-in_default
-returns-in_default c = rw c.u32_at.ensures (end_is _ ∙ as_at c.requires end_kind (end_kind_lem c.requires c.in_default.rest))
+returns-in_default c = rw c.u32_at.ensures (end_is _ ∙ as_at c.requires end_kind (end_kind_lem c.requires (search rules)))

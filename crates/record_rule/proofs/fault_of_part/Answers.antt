@@ -9,4 +9,4 @@ returns-in-Party c =
     (party_in_part _ _ _ c.args.part.now _ _ c.gln_in.ensures c.brp_gln_in.ensures c.party_fault.ensures)
 
 pub returns-in_default : goal.returns-in_default
-returns-in_default c = c.fault.ensures ∙ no_gln_looked_at _ _ _ _ _ c.args.r c.in_default.keys2
+returns-in_default c = c.fault.ensures ∙ no_gln_looked_at _ _ _ _ _ c.args.r c.in_default.not-Party

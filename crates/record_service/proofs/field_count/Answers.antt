@@ -1,4 +1,5 @@
 -- `record_service::field_count` meets its contract: each kind has its own number, and the last kind is the end. Assumes nothing.
+use borrow.Author.Rules.{rules}
 use Rattle.rules.proofs.EachKind.{body_lengths, last_kind}
 use Rattle.record_service.specs.Held.{field_count}
 use Rattle.record_service.proofs.field_count.Goals as goal
@@ -37,4 +38,4 @@ returns-in-18 c = rw c.in-18.is
 
 pub returns-in_default : goal.returns-in_default
 unfolding field_count body_lengths
-returns-in_default c = rw (last_kind _ c.requires c.in_default.rest)
+returns-in_default c = rw (last_kind _ c.requires (search rules))

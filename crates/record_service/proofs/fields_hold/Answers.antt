@@ -40,4 +40,4 @@ returns-in-8 c =
     (c.in_eight_bytes-in-8.ensures ∙ ap (λ z. leb (nat_abs z) 18446744073709551615) (to_z-of_z g))
 
 pub returns-in_default : goal.returns-in_default
-returns-in_default c = others_held _ _ c.in_default.rest.0.1 c.in_default.rest.1
+returns-in_default c = others_held _ _ (search rules) (search rules)

@@ -63,7 +63,7 @@ u64_of-requires-in-18 c = omega (arith, c.requires.1 ∙ ap field_count c.in-18.
 
 pub u32_of-requires : goal.u32_of-requires
 unfolding field_count body_lengths
-u32_of-requires c = omega (arith, c.requires.1 ∙ ap field_count (last_kind _ c.requires.0 c.in_default.rest))
+u32_of-requires c = omega (arith, c.requires.1 ∙ ap field_count (last_kind _ c.requires.0 (search rules)))
 
 pub returns-in-1 : goal.returns-in-1
 unfolding held_record
@@ -99,4 +99,4 @@ returns-in-18 c = rw c.in-18.is (ap (Party Named) c.u64_of-in-18.ensures)
 
 pub returns-in_default : goal.returns-in_default
 unfolding held_record
-returns-in_default c = rw (last_kind _ c.requires.0 c.in_default.rest) (ap End c.u32_of.ensures)
+returns-in_default c = rw (last_kind _ c.requires.0 (search rules)) (ap End c.u32_of.ensures)

@@ -1,5 +1,6 @@
 -- `record_service::signed_place` meets its contract: three kinds have such a number. Assumes nothing.
-use borrow.Author.Tests.{ne_eqb}
+use native.Mathlib.Omega.{arith}
+use Rattle.std.proofs.lemmas.Grind.{common_steps}
 use Rattle.record_service.specs.Held.{signed_place}
 use Rattle.record_service.proofs.signed_place.Goals as goal
 
@@ -17,4 +18,4 @@ returns-in-5 c = rw c.in-5.is
 
 pub returns-in_default : goal.returns-in_default
 unfolding signed_place
-returns-in_default c = simp (ne_eqb _ _ c.in_default.rest.0.0.1, ne_eqb _ _ c.in_default.rest.0.1, ne_eqb _ _ c.in_default.rest.1)
+returns-in_default c = grind (arith, common_steps)

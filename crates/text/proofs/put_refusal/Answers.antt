@@ -7,9 +7,11 @@ use Rattle.text.proofs.RefusalLine.{number_ends, refusal_text_lem}
 use Rattle.text.proofs.put_refusal.Goals as goal
 
 pub put_word_number-after_place-requires : goal.put_word_number-after_place-requires
+unfolding ascii
 put_word_number-after_place-requires c = omega (arith, (number_ends (named c.args.refusal) c.number-number.ensures c.put_word_number-after_number.ensures.text))
 
 pub put_bytes-requires : goal.put_bytes-requires
+unfolding ascii
 put_bytes-requires c = omega (arith, (number_ends (named c.args.refusal) c.number-number.ensures c.put_word_number-after_number.ensures.text))
 
 pub returns : goal.returns
