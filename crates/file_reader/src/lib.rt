@@ -1,6 +1,6 @@
 // "A reader goes through the file record by record" (01 "Expected forms by place"): "A struct holds the file slice and place; two or three thin functions by
-// hand call a covered function on slice and cursor." The borrow checker covers no function over such a struct, so `new`, `next` and `next_at` are proved by
-// hand; the work stands in `step_at`, which takes a plain slice and is covered. `file_sections` goes through a file by `next_at`.
+// hand call a covered function on slice and cursor." Today's borrow checker covers a struct that holds a slice, so `new`, `next` and `next_at` need no proof by
+// hand; the work stands in `step_at`, which takes a plain slice. `file_sections` goes through a file by `next_at`.
 #![tactic(auto)]
 
 ghost use Rattle.std.specs.Prelude.{◌≡◌, drop};
@@ -38,7 +38,7 @@ fn next<'a>(r: Reader<'a>, w: Walk) -> Step
     step_at(r.file, r.at, w)
 }
 
-// The same by plain parameters, so that a caller needs no walk by hand: the loop through a file calls this.
+// The same by plain parameters: the loop through a file calls this.
 pub fn next_at(file: &[u8], at: usize, w: Walk) -> Step
     requires { Steppable w (drop at file.now) }
     ensures { Stepped w (drop at file.now) result }

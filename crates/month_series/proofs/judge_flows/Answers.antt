@@ -12,5 +12,5 @@ residual_of-wh-requires c = let fits : SFits w64 c.args.f.net_wh = search rules 
 pub returns : goal.returns
 returns c =
     let fits : SFits w64 c.args.f.net_wh = search rules in
-    judged_is _ c.judge.result (to_z-of_z fits) c.residual_of-wh.ensures (to_z-of_z (record { sfits = c.residual_of-wh.type-inv }))
-    c.judge.ensures
+    let wh_fits : SFits w64 c.residual_of-wh.result = search rules in
+    judged_is _ c.judge.result (to_z-of_z fits) c.residual_of-wh.ensures (to_z-of_z wh_fits) c.judge.ensures
