@@ -12,7 +12,7 @@ returns-in_default c =
     (file_verdict_lem optional _ _ _ c.requires ∙ sym (refused_before c.prepare-prepared.ensures.is c.in_default.is) ∙ ap said c.in_default.is)
 
 pub run_made-requires : goal.run_made-requires
-run_made-requires c = record { accepted = c.requires; setting = c.args.setting; is = c.prepare-prepared.ensures; c = c.in-Done.is }
+run_made-requires c = record { accepted = c.requires; setting = c.args.setting; is = c.prepare-prepared.ensures; passed = c.in-Done.is }
 
 pub returns : goal.returns
 returns c = c.run_made.ensures.under _ (file_verdict_lem optional _ _ _ c.requires ∙ hours_decide c.prepare-prepared.ensures.is c.in-Done.is)

@@ -6,19 +6,19 @@ use Rattle.report_figures.proofs.Passing.{goes, step_asked, stops, hour_asked, g
 use Rattle.report_figures.proofs.pass_hours.Goals as goal
 
 pub loop-walk-init : goal.loop-walk-init
-loop-walk-init c = rw (c.none-distances.ensures, c.begin-walk.ensures) (goes c.requires.month_known c.requires.beginning.0 c.requires.beginning.1.0 c.requires.beginning.1.1)
+loop-walk-init c = rw (c.none-distances.ensures, c.begin-walk.ensures) (goes c.requires.month_known c.requires.beginning c.requires.window_len c.requires.sums_lent)
 
 pub step-walk-requires : goal.step-walk-requires
 step-walk-requires c = record { month_known = c.requires.month_known; step_asked = step_asked c.requires.month_known c.loop-walk.invariant (omega arith) }
 
 pub shape_of-window-in_default : goal.shape_of-window-in_default
-shape_of-window-in_default c = c.window-1.given ∙ c.loop-walk.invariant.walked.holds.is.size ∙ sym c.requires.beginning.1.0
+shape_of-window-in_default c = c.window-1.given ∙ c.loop-walk.invariant.walked.holds.is.size ∙ sym c.requires.window_len
 
 pub shape_of-distributed_wh-in_default : goal.shape_of-distributed_wh-in_default
-shape_of-distributed_wh-in_default c = c.loop-walk.invariant.passed.distributed.size ∙ sym c.requires.beginning.1.1.distributed_size
+shape_of-distributed_wh-in_default c = c.loop-walk.invariant.passed.distributed.size ∙ sym c.requires.sums_lent.distributed_size
 
 pub shape_of-periodised_wh-in_default : goal.shape_of-periodised_wh-in_default
-shape_of-periodised_wh-in_default c = c.loop-walk.invariant.passed.periodised.size ∙ sym c.requires.beginning.1.1.periodised_size
+shape_of-periodised_wh-in_default c = c.loop-walk.invariant.passed.periodised.size ∙ sym c.requires.sums_lent.periodised_size
 
 pub returns-in_default : goal.returns-in_default
 returns-in_default c = record { passed = stops c.requires.month_known c.loop-walk.invariant (omega arith) c.step-walk.ensures c.in_default.is _ _ _; window = c.step-walk.ensures.window_is }
@@ -33,13 +33,13 @@ pub loop-walk-preserved : goal.loop-walk-preserved
 loop-walk-preserved c = goes_on c.requires.month_known c.loop-walk.invariant (omega arith) c.step-walk.ensures c.in-Done.is c.pass_hour-distances.ensures
 
 pub shape_of-window : goal.shape_of-window
-shape_of-window c = c.loop-walk.invariant.walked.holds.is.size ∙ sym c.requires.beginning.1.0
+shape_of-window c = c.loop-walk.invariant.walked.holds.is.size ∙ sym c.requires.window_len
 
 pub shape_of-distributed_wh : goal.shape_of-distributed_wh
-shape_of-distributed_wh c = c.loop-walk.invariant.passed.distributed.size ∙ sym c.requires.beginning.1.1.distributed_size
+shape_of-distributed_wh c = c.loop-walk.invariant.passed.distributed.size ∙ sym c.requires.sums_lent.distributed_size
 
 pub shape_of-periodised_wh : goal.shape_of-periodised_wh
-shape_of-periodised_wh c = c.loop-walk.invariant.passed.periodised.size ∙ sym c.requires.beginning.1.1.periodised_size
+shape_of-periodised_wh c = c.loop-walk.invariant.passed.periodised.size ∙ sym c.requires.sums_lent.periodised_size
 
 pub returns : goal.returns
 returns c = record { passed = ends c.requires.month_known c.loop-walk.invariant (omega arith); window = walk_window c.loop-walk.invariant.walked (omega (arith, some_hours c.requires.month_known)) }

@@ -11,10 +11,13 @@ returns-in_default c = not_made c.in_default.is _ _ _
 
 pub pass_hours-passed-requires : goal.pass_hours-passed-requires
 pass_hours-passed-requires c =
-    let made = c.requires.made_so.0.made (ap said c.in-Done.is) in let both = (
-      month_known _ _ c.requires.accepted made refl c.applied-applied_wh.ensures,
-      (beginning _ _ c.requires.accepted made, (search rules, c.requires.made_so.1)),
-    ) in record { month_known = both.0; beginning = both.1; window_len = both.2; sums_lent = both.3 }
+    let made = c.requires.made_so.made (ap said c.in-Done.is) in
+    record {
+      month_known = month_known _ _ c.requires.accepted made refl c.applied-applied_wh.ensures;
+      beginning = beginning _ _ c.requires.accepted made;
+      window_len = search rules;
+      sums_lent = c.requires.sums_lent;
+    }
 
 pub shape_of-distributed_wh : goal.shape_of-distributed_wh
 shape_of-distributed_wh c = c.distributed_wh-1.given

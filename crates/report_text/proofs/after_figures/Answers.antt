@@ -19,17 +19,12 @@ returns-then-not-has_room c =
     }
 
 pub three_parts-requires : goal.three_parts-requires
-three_parts-requires c =
-    let both = (
-      known _ _ c.requires.accepted c.requires.numbers_of c.in-Done.is refl c.applied-applied_wh.ensures,
-      (
-        distanced _ _ c.requires.accepted c.requires.numbers_of c.in-Done.is,
-        (
-          counted _ _ c.requires.accepted c.requires.numbers_of c.in-Done.is,
-          roomy _ _ _ (sym c.has_room.ensures ∙ flag_on _ c.if-not-has_room.false-raw),
-        ),
-      ),
-    ) in record { known = both.0; distanced = both.1; estimated_value = both.2; roomy = both.3 }
+three_parts-requires c = record {
+  known = known _ _ c.requires.accepted c.requires.numbers_of c.in-Done.is refl c.applied-applied_wh.ensures;
+  distanced = distanced _ _ c.requires.accepted c.requires.numbers_of c.in-Done.is;
+  estimated_value = counted _ _ c.requires.accepted c.requires.numbers_of c.in-Done.is;
+  roomy = roomy _ _ _ (sym c.has_room.ensures ∙ flag_on _ c.if-not-has_room.false-raw);
+}
 
 pub returns-in-Refused : goal.returns-in-Refused
 returns-in-Refused c = refused_month _ _ _ _ _ _ (ap said c.in-Refused.is)

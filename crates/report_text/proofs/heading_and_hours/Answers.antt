@@ -3,17 +3,15 @@ use Rattle.report_text.proofs.Parts.{first_inside, room_for_hours, first_part_le
 use Rattle.report_text.proofs.heading_and_hours.Goals as goal
 
 pub hours_from-requires : goal.hours_from-requires
-hours_from-requires c =
-    let both = (
-      c.requires.known,
-      (
-        first_inside _ _ c.requires.known.read c.requires.first_asked.0,
-        room_for_hours _ _ c.requires.known.read c.requires.first_asked.0 c.heading_line-after_heading.ensures.text
-            c.heading_line-after_heading.ensures.within c.requires.first_asked.1,
-      ),
-    ) in record { known = both.0; inside = both.1; hour_room_in_bounds = both.2 }
+hours_from-requires c = record {
+  known = c.requires.known;
+  inside = first_inside _ _ c.requires.known.read c.requires.first_asked;
+  hour_room_in_bounds =
+      room_for_hours _ _ c.requires.known.read c.requires.first_asked c.heading_line-after_heading.ensures.text
+      c.heading_line-after_heading.ensures.within c.requires.first_room_in_bounds;
+}
 
 pub returns : goal.returns
 returns c =
-    first_part_lem _ _ c.requires.known.read c.requires.first_asked.0 c.heading_line-after_heading.ensures.text
+    first_part_lem _ _ c.requires.known.read c.requires.first_asked c.heading_line-after_heading.ensures.text
     c.heading_line-after_heading.ensures.within c.hours_from.ensures

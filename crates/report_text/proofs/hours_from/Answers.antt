@@ -11,10 +11,14 @@ pub loop-k-init : goal.loop-k-init
 loop-k-init c = go_start _ _ _ _ _
 
 pub overflow_add-start : goal.overflow_add-start
-overflow_add-start c = record { fits = omega (arith, few c.requires.known, c.requires.inside.0.inside) }
+overflow_add-start c = record { fits = omega (arith, few c.requires.known, c.requires.inside.inside) }
 
 pub one_hour-end-requires : goal.one_hour-end-requires
-one_hour-end-requires c = let both = (c.requires.known, (record { inside = omega (arith, c.requires.inside.0.inside) }, go_room c.loop-k.invariant (omega arith) _ (le_refl _) c.requires.inside.1)) in record { known = both.0; inside = both.1; hour_room_in_bounds = both.2 }
+one_hour-end-requires c = record {
+  known = c.requires.known;
+  inside = record { inside = omega (arith, c.requires.inside.inside) };
+  hour_room_in_bounds = go_room c.loop-k.invariant (omega arith) _ (le_refl _) c.requires.hour_room_in_bounds;
+}
 
 pub loop-k-preserved : goal.loop-k-preserved
 unfolding line_from
