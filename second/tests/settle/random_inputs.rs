@@ -13,9 +13,6 @@ use crate::priced_hours::PricedHours;
 
 const INPUTS: u64 = 100_000;
 
-/// Of the distribution, which is dear: the compiled code runs under an emulator where it is built for another processor.
-const DISTRIBUTIONS: u64 = if cfg!(emulated) { 20_000 } else { INPUTS };
-
 /// How often a fault led to a refusal: by the fault's number in its service, and the refusal's.
 #[derive(Default)]
 struct Reached(BTreeMap<(usize, u8), usize>);
@@ -286,7 +283,7 @@ fn curve() {
 #[test]
 fn distribution() {
     let mut reached = Reached::default();
-    for number in 0..DISTRIBUTIONS {
+    for number in 0..INPUTS {
         let mut random = Random::of_file(43, number);
         let parties = size(&mut random, 64, 100);
         let hours = size(&mut random, 745, 500);
