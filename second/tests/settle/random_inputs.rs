@@ -31,17 +31,11 @@ impl Reached {
         }
     }
 
-    /// That each fault alone led to these refusals (0 being acceptance), and that good inputs, of those counted at least
-    /// a fifth, were accepted.
+    /// That each fault alone led to these refusals (0 being acceptance), and good inputs were accepted.
     #[track_caller]
     fn assert_all(&self, service: &str, expected: &[(usize, &[u8])]) {
         let times = |key| self.0.get(&key).copied().unwrap_or(0);
-        let counted: usize = self.0.values().sum();
-        assert!(
-            5 * times((usize::MAX, 0)) > counted,
-            "{service}: {:?}",
-            self.0
-        );
+        assert!(times((usize::MAX, 0)) > 10_000, "{service}: {:?}", self.0);
         for &(fault, numbers) in expected {
             for &number in numbers {
                 let reached = times((fault, number));
