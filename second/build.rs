@@ -1,15 +1,9 @@
 //! Links the compiled services, `libsettle_c.a`, where SETTLE_LIB_DIR names the folder that has it, and then sets the cfg
-//! `settle_lib`. Without it everything but the comparison with them is built. What is built for another processor than this
-//! one's runs under an emulator: the cfg `emulated`.
+//! `settle_lib`. Without it everything but the comparison with them is built. `rt lib` in `crates/settle_c_c` writes the library, as
+//! `out/libsettle_c_c.a`.
 
 fn main() {
     println!("cargo:rustc-check-cfg=cfg(settle_lib)");
-    println!("cargo:rustc-check-cfg=cfg(emulated)");
-    let processor =
-        |word: &str| std::env::var(word).map(|triple| triple.split('-').next().map(str::to_string));
-    if processor("HOST") != processor("TARGET") {
-        println!("cargo:rustc-cfg=emulated");
-    }
     println!("cargo:rerun-if-env-changed=SETTLE_LIB_DIR");
     let Ok(folder) = std::env::var("SETTLE_LIB_DIR") else {
         return;
