@@ -1,11 +1,13 @@
 -- `periodise_service::periodisation` meets its contract: its tests stand in the order of the checks, and what passes them all is spread with nothing before and S
 -- the whole. Assumes nothing.
 use mathlib.Core.Path.{refl, sym, ◌∙◌, ap}
+use lib.ListN.{length}
 use Rattle.answer.specs.Said.{said}
 use Rattle.answer.proofs.Checks.{unwritten}
 use Rattle.rules.specs.Refusals.{afterwards}
-use Rattle.periodise_service.proofs.Order.{lent_wrong, no_hours, too_many_hours, energy_wrong, weights_stop, follow_stop, all_pass, core_asks, core_gives}
+use Rattle.periodise_service.proofs.Order.{lent_wrong, no_hours, too_many_hours, energy_wrong, weights_stop, Summed, follow_stop, all_pass, core_asks, core_gives}
 use Rattle.periodise_service.proofs.periodisation.Goals as goal
+use Rattle.periodise_service.proofs.periodisation.Goals.{After-total-s}
 
 pub returns-then-out-weights : goal.returns-then-out-weights
 unfolding afterwards
@@ -25,34 +27,34 @@ returns-then-e c = record { answer = energy_wrong _ _ _ c.if-out-weights.false c
 
 pub returns-in_default : goal.returns-in_default
 unfolding afterwards
-returns-in_default c = record { answer = weights_stop ((record { as_long = c.if-out-weights.false; some = c.if-weights-lt1.false; few = c.if-weights-gt-MOST_WEIGHTS.false; fits = c.if-e.false })) c.each_at_most_u32-each.ensures c.in_default.is; contents = unwritten _ _ c.in_default.is }
+returns-in_default c =
+    record {
+      answer = weights_stop (record { as_long = c.if-out-weights.false; some = c.if-weights-lt1.false; few = c.if-weights-gt-MOST_WEIGHTS.false; fits = c.if-e.false }) c.each_at_most_u32-each.ensures c.in_default.is;
+      contents = unwritten _ _ c.in_default.is;
+    }
+
+-- what is known where the weights are judged, and E and the lengths before them
+summed : (c : After-total-s) → Summed c.args.e c.args.weights.now (length c.args.out.now) c.total-s.result
+summed c =
+    record {
+      shape = record { as_long = c.if-out-weights.false; some = c.if-weights-lt1.false; few = c.if-weights-gt-MOST_WEIGHTS.false; fits = c.if-e.false };
+      each = sym c.each_at_most_u32-each.ensures ∙ ap said c.in-Done.is;
+      total = c.total-s.ensures;
+    }
 
 pub returns-in_default-followed : goal.returns-in_default-followed
 unfolding afterwards
 returns-in_default-followed c =
     record {
-      answer = follow_stop ((record {
-        shape = (record { as_long = c.if-out-weights.false; some = c.if-weights-lt1.false; few = c.if-weights-gt-MOST_WEIGHTS.false; fits = c.if-e.false });
-        each = sym c.each_at_most_u32-each.ensures ∙ ap said c.in-Done.is;
-        total = c.total-s.ensures;
-      })) c.followed_by-followed.ensures c.in_default-followed.is;
+      answer = follow_stop (summed (goal.at.returns-in_default-followed c).After-total-s) c.followed_by-followed.ensures c.in_default-followed.is;
       contents = unwritten _ _ c.in_default-followed.is;
     }
 
 pub spread-requires : goal.spread-requires
-spread-requires c =
-    let known = (record {
-      shape = (record { as_long = c.if-out-weights.false; some = c.if-weights-lt1.false; few = c.if-weights-gt-MOST_WEIGHTS.false; fits = c.if-e.false });
-      each = sym c.each_at_most_u32-each.ensures ∙ ap said c.in-Done.is;
-      total = c.total-s.ensures;
-    }) in record { within = core_asks known; out_len = known.shape.as_long }
+spread-requires c = let known = summed (goal.at.spread-requires c).After-total-s in record { within = core_asks known; out_len = known.shape.as_long }
 
 pub returns : goal.returns
 unfolding afterwards
 returns c =
-    let known = (record {
-      shape = (record { as_long = c.if-out-weights.false; some = c.if-weights-lt1.false; few = c.if-weights-gt-MOST_WEIGHTS.false; fits = c.if-e.false });
-      each = sym c.each_at_most_u32-each.ensures ∙ ap said c.in-Done.is;
-      total = c.total-s.ensures;
-    }) in
+    let known = summed (goal.at.returns c).After-total-s in
     record { answer = all_pass known c.followed_by-followed.ensures c.in-Done-followed.is; contents = core_gives known c.spread.ensures }
