@@ -30,7 +30,7 @@ pub loop-j-init : goal.loop-j-init
 loop-j-init c = (look_start _ _, none_before _ _)
 
 pub reading-x-requires : goal.reading-x-requires
-reading-x-requires c = reading_asked _ _ _ _ (here (goal.at.reading-x-requires c).In-loop-j)
+reading-x-requires c = reading_asked _ _ _ _ (here c)
 
 pub weight_between-own-requires : goal.weight_between-own-requires
 unfolding at

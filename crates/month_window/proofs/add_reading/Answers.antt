@@ -11,7 +11,7 @@ pub weight_between-skipped-requires : goal.weight_between-skipped-requires
 weight_between-skipped-requires c = ordered c.requires (omega arith) (omega arith)
 
 pub offset_bounds-out-low : goal.offset_bounds-out-low
-offset_bounds-out-low c = omega (arith, c.slot-low.ensures, c.requires.places, c.if-begin-end.true, c.earlier-end.ensures, c.good.1.1.1.1.1.0.1)
+offset_bounds-out-low c = omega (arith, c.slot-low.ensures, c.requires.places, c.if-begin-end.true, c.earlier-end.ensures)
 
 pub add-requires : goal.add-requires
 add-requires c =
