@@ -12,9 +12,9 @@ use Rattle.answer.specs.Said.{said}
 use Rattle.answer.specs.declared.Answer.{Answer}
 use Rattle.distribute.proofs.Demand.{demand_3_of}
 use Rattle.month_demands.specs.Distribution.{DistributionAsked, DistributionMeets, written, written_over, RunMeets}
-use Rattle.run_hours.specs.InRun.{distributed_in_run}
+use Rattle.month_run.specs.InRun.{distributed_in_run}
 use Rattle.month_run.specs.Run.{in_month, asked_verdict, run_verdict, Promised}
-use Rattle.run_hours.proofs.OneHour.{in_run}
+use Rattle.month_run.proofs.OneHour.{in_run}
 use Rattle.month_run.proofs.Verdicts.{run_inside}
 use Rattle.setting.specs.Asked.{asked}
 use Rattle.setting.specs.declared.Setting.{Setting}

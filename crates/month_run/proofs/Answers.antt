@@ -15,7 +15,7 @@ use Rattle.file_sections.specs.declared.Sections.{Sections}
 use Rattle.file_sections.proofs.AcceptedFile.{hours_are, parties_are}
 use Rattle.month_walk.specs.Hours.{all_limited}
 use Rattle.month_run.specs.Run.{in_month, lent_right, asked_verdict, run_verdict, Promised, HoursAnswered}
-use Rattle.run_hours.specs.Running.{RunLent, RunIs}
+use Rattle.month_run.specs.Running.{RunLent, RunIs}
 use Rattle.month_run.proofs.Verdicts.{run_inside, lengths}
 use Rattle.setting.specs.Asked.{asked}
 use Rattle.setting.specs.declared.Setting.{Setting}

@@ -11,8 +11,8 @@ use Rattle.answer.specs.declared.Answer.{Answer}
 use Rattle.answer.specs.declared.Answer.TheVariants.{Done}
 use Rattle.answer.proofs.Said.{said_once}
 use Rattle.month_run.specs.Run.{Promised}
-use Rattle.run_hours.specs.InRun.{distributed_in_run, periodised_in_run, loss_in_run}
-use Rattle.run_hours.proofs.OneHour.{in_run}
+use Rattle.month_run.specs.InRun.{distributed_in_run, periodised_in_run, loss_in_run}
+use Rattle.month_run.proofs.OneHour.{in_run}
 use Rattle.setting.specs.declared.Setting.{Setting}
 use Rattle.rules.specs.Month.{month_of, distributed, periodised, difference, loss, month_distributed, month_periodised, month_difference, month_loss}
 use Rattle.rules.specs.MonthFile.{MonthFile, H, P}

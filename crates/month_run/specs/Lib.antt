@@ -1,1 +1,3 @@
+pub mod InRun
+pub mod Running
 pub mod Run

@@ -4,7 +4,7 @@ use Rattle.std.specs.Prelude.{Bool, ◌&&◌, List, ◌≡◌, ℕ, ◌+◌, ◌
 use Rattle.answer.specs.Said.{said}
 use Rattle.answer.specs.declared.Answer.{Answer}
 use Rattle.month_walk.specs.Hours.{all_limited}
-use Rattle.run_hours.specs.InRun.{distributed_in_run, periodised_in_run, loss_in_run}
+use Rattle.month_run.specs.InRun.{distributed_in_run, periodised_in_run, loss_in_run}
 use Rattle.setting.specs.Asked.{asked}
 use Rattle.setting.specs.declared.Setting.{Setting}
 use Rattle.rules.specs.Month.{month_of, file_verdict}

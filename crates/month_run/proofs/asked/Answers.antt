@@ -12,7 +12,7 @@ returns-then-not-in_month c = outside _ _ _ _ _ _ _ _ (sym c.in_month.ensures âˆ
 pub overflow_mul-hours : goal.overflow_mul-hours
 overflow_mul-hours c =
     let inside = sym c.in_month.ensures âˆ™ not-false _ c.if-not-in_month.false-raw in
-    omega (arith, product_fits c.args.s.heading.hours c.args.run.start c.args.run.hours c.args.s.heading.parties (search rules) (search rules) inside)
+    omega (arith, product_fits c.args.s.heading.hours c.args.start c.args.hours c.args.s.heading.parties (search rules) (search rules) inside)
 
 pub returns-then-not-lent_right : goal.returns-then-not-lent_right
 returns-then-not-lent_right c =

@@ -2,24 +2,20 @@
 use mathlib.Core.Path.{sym, ◌∙◌, ap}
 use Rattle.answer.specs.Said.{said}
 use Rattle.month_run.proofs.Answers.{refused_hour, refused_run, run_lent, written}
+use Rattle.rules.specs.Refusals.{accepted}
 use Rattle.month_run.proofs.run_made.Goals as goal
 
-pub all_judged-limited-requires : goal.all_judged-limited-requires
-all_judged-limited-requires c = c.requires
+pub judge_all-limited-requires : goal.judge_all-limited-requires
+judge_all-limited-requires c = record { windows_known = c.requires.month_known.windows; window_len = c.requires.window_len }
 
 pub returns-in_default : goal.returns-in_default
-returns-in_default c = refused_hour _ _ _ _ _ _ _ c.all_judged-limited.ensures c.in_default.is
+returns-in_default c = refused_hour _ _ _ _ _ _ _ c.judge_all-limited.ensures.answer c.in_default.is
 
 pub returns-in_default-right : goal.returns-in_default-right
-returns-in_default-right c = refused_run c.requires.accepted (sym c.all_judged-limited.ensures ∙ ap said c.in-Done.is) _ _ _ _ _ _ c.asked-right.ensures c.in_default-right.is
+returns-in_default-right c = refused_run c.requires.month_known.windows.accepted ((sym c.judge_all-limited.ensures.answer ∙ ap said c.in-Done.is)) _ _ _ _ _ _ c.asked-right.ensures c.in_default-right.is
 
-pub write-requires : goal.write-requires
-write-requires c =
-    let none = sym c.all_judged-limited.ensures ∙ ap said c.in-Done.is in
-    record {
-      run_ready = record { ready = c.requires; none_refuses = none };
-      run_lent = run_lent c.requires.accepted none _ _ _ _ _ _ _ c.asked-right.ensures c.in-Done-right.is;
-    }
+pub run_hours-requires : goal.run_hours-requires
+run_hours-requires c = let lent = run_lent c.requires.month_known.windows.accepted ((sym c.judge_all-limited.ensures.answer ∙ ap said c.in-Done.is)) _ _ _ _ _ _ _ c.asked-right.ensures c.in-Done-right.is in record { run_known = record { month = c.requires.month_known; none_refuses = (sym c.judge_all-limited.ensures.answer ∙ ap said c.in-Done.is) }; beginning = c.requires.beginning; window_len = c.judge_all-limited.ensures.window; run_lent = lent }
 
 pub returns : goal.returns
-returns c = written c.requires.accepted (sym c.all_judged-limited.ensures ∙ ap said c.in-Done.is) _ _ _ _ _ _ c.asked-right.ensures c.in-Done-right.is c.write.ensures
+returns c = written c.requires.month_known.windows.accepted ((sym c.judge_all-limited.ensures.answer ∙ ap said c.in-Done.is)) _ _ _ _ _ _ c.asked-right.ensures c.in-Done-right.is c.run_hours.ensures.run

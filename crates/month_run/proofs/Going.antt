@@ -11,12 +11,8 @@ use Rattle.answer.specs.declared.Answer.{Answer}
 use Rattle.answer.specs.declared.Answer.TheVariants.{Done, Refused}
 use Rattle.distribute.specs.declared.Carries.{Carries}
 use Rattle.file_sections.specs.declared.Sections.{Sections}
-use Rattle.hour_settled.specs.declared.Quantities.{Quantities}
-use Rattle.run_hours.specs.InRun.{distributed_in_run, periodised_in_run, loss_in_run}
-use Rattle.run_hours.specs.Running.{RunLent, Running, HourLent, HourWritten, RunIs}
-use Rattle.run_hours.proofs.OneHour as OneHour
-use Rattle.run_hours.proofs.Ready.{RunKnown}
-use Rattle.month_walk.specs.Hours.{QuantitiesAre}
+use Rattle.month_run.specs.InRun.{distributed_in_run, periodised_in_run, loss_in_run}
+use Rattle.month_run.specs.Running.{RunKnown, RunLent, Running, RunIs}
 use Rattle.month_walk.specs.Walking.{Beginning, Walked, begun, StepAsked, HourOn, SteppedIs, HourAsked, window_places}
 use Rattle.month_walk.specs.declared.Walk.{Walk}
 use Rattle.month_walk.proofs.Walking.{walk_begins, residual_there, few, hour_on}
@@ -80,6 +76,13 @@ module _ {file : List ℕ} {s : Sections} {applied curveNumbers beginnings : Lis
     pub few_here : w.t < most_hours
     few_here = few known.month in_month_holds
 
+    -- the run has as many hours as losses are asked for
+    pub in_run : w.t < start + length l
+    in_run = omega (arith, g.running.losses.size)
+
+    pub running_here : Running m start (length l) w.t d p x l
+    running_here = subst (λ (n : ℕ). Running m start n w.t d p x l) (sym g.running.losses.size) g.running
+
     pub step_asked : StepAsked m w window
     step_asked = record { walked = g.walked; hour = in_month_holds }
 
@@ -98,27 +101,11 @@ module _ {file : List ℕ} {s : Sections} {applied curveNumbers beginnings : Lis
       pub hour_asked : HourAsked file s w.t (get_or applied w.t 0) r.held r.carries.figures window'
       hour_asked = hour_on known.month in_month_holds on
 
-      goes_on : {d' : List ℤ} {p' : List ℕ} {x' l' : List ℤ} → Running m start hours (w.t + 1) d' p' x' l' → Going m start hours window' r d' p' x' l'
+      pub goes_on : {d' : List ℤ} {p' : List ℕ} {x' l' : List ℤ} → Running m start (length l) (w.t + 1) d' p' x' l' → Going m start hours window' r d' p' x' l'
       goes_on {d'} {p'} {x'} {l'} run =
           let bound : r.t ≤ start + hours = omega (arith, one_on) in
-          record { walked = on.walked; bound = bound; running = subst (λ (t : ℕ). Running m start hours t d' p' x' l') (sym one_on) run }
-
-      -- an hour before the run: nothing is written
-      pub goes_by : w.t < start → Going m start hours window' r d p x l
-      goes_by before = goes_on (OneHour.not_begun g.running before)
-
-      -- an hour of the run
-      module _ (started : start ≤ w.t) where
-        pub hour_lent : HourLent s.heading.parties (w.t - start) (length d) (length p) (length x) (length l)
-        hour_lent = OneHour.hour_lent hour_asked b started g.running
-
-        pub goes_written :
-            {quantities : Quantities}
-            → QuantitiesAre m w.t quantities
-            → {d' : List ℤ} {p' : List ℕ} {x' l' : List ℤ}
-            → HourWritten quantities s.heading.parties (w.t - start) d p x l d' p' x' l'
-            → Going m start hours window' r d' p' x' l'
-        goes_written quantities-are put = goes_on (OneHour.hour_on hour_asked b started g.running quantities-are put)
+          let same = subst (λ (n : ℕ). Running m start n (w.t + 1) d' p' x' l') g.running.losses.size run in
+          record { walked = on.walked; bound = bound; running = subst (λ (t : ℕ). Running m start hours t d' p' x' l') (sym one_on) same }
 
   -- none is left
   pub ends :

@@ -13,8 +13,8 @@ use Rattle.month_walk.specs.Hours.{QuantitiesAre}
 use Rattle.month_walk.specs.Walking.{HourAsked}
 use Rattle.month_walk.specs.declared.Held.{Held}
 use Rattle.month_walk.proofs.Bounds.{few_parties}
-use Rattle.run_hours.specs.InRun.{distributed_in_run, periodised_in_run, loss_in_run}
-use Rattle.run_hours.specs.Running.{Running, HourLent, HourWritten}
+use Rattle.month_run.specs.InRun.{distributed_in_run, periodised_in_run, loss_in_run}
+use Rattle.month_run.specs.Running.{Running, HourLent, HourWritten}
 use Rattle.rules.specs.Month.{month_of, distributed, periodised, difference, loss}
 use Rattle.rules.specs.MonthFile.{MonthFile, P}
 use Rattle.rules.specs.Run.{difference_in_run}

@@ -1,7 +1,7 @@
--- `run_hours::put_wh` meets its contract: whatever series the list is filled with, each turn fills one place more. Assumes nothing.
+-- `month_run::put_wh` meets its contract: whatever series the list is filled with, each turn fills one place more. Assumes nothing.
 use native.Mathlib.Omega.{arith}
 use Rattle.distribute.proofs.Putting.{put_start, put_next, put_end}
-use Rattle.run_hours.proofs.put_wh.Goals as goal
+use Rattle.month_run.proofs.put_wh.Goals as goal
 
 pub loop-i-init : goal.loop-i-init
 loop-i-init c = put_start

@@ -1,15 +1,11 @@
 -- The hours of a run one after the other: what is known before them, and how far the lent outputs are filled.
 use Rattle.std.specs.Prelude.{List, ◌≡◌, ℕ, ◌+◌, ◌-◌, ◌*◌, ◌≤◌, ◌<◌, ℤ, pos, set}
-use Rattle.answer.specs.declared.Answer.TheVariants.{Done}
 use Rattle.distribute.specs.Written.{FilledOn}
-use Rattle.file_sections.specs.Walk.{Accepted}
 use Rattle.file_sections.specs.declared.Sections.{Sections}
 use Rattle.hour_settled.specs.declared.Quantities.{Quantities}
-use Rattle.month_prepare.specs.Checks.{PreparedIs}
-use Rattle.month_prepare.specs.declared.Prepared.{Prepared}
 use Rattle.month_walk.specs.Hours.{all_limited}
-use Rattle.run_hours.specs.InRun.{distributed_in_run, periodised_in_run, loss_in_run}
-use Rattle.setting.specs.declared.Setting.{Setting}
+use Rattle.month_walk.specs.Walking.{MonthKnown}
+use Rattle.month_run.specs.InRun.{distributed_in_run, periodised_in_run, loss_in_run}
 use Rattle.rules.specs.Limits.{most_parties}
 use Rattle.rules.specs.Month.{month_of}
 use Rattle.rules.specs.MonthFile.{MonthFile, H, P}
@@ -18,16 +14,9 @@ use Rattle.rules.specs.Run.{difference_in_run}
 use Rattle.rules.specs.Words.{figures}
 use Rattle.rules.proofs.Loops.{Filling}
 
--- what is made of a month before its hours, under whatever setting, and nothing of it is refused
-pub record Ready (file : List ℕ) (s : Sections) (r : Prepared) : Type 0 where
-  pub accepted : Accepted file s
-  pub setting : Setting
-  pub is : PreparedIs setting file s r
-  pub passed : r.made.answer ≡ Done
-
--- nor any hour of the month with 14
-pub record RunReady (file : List ℕ) (s : Sections) (r : Prepared) : Type 0 where
-  pub ready : Ready file s r
+-- what the run is walked with: no hour of the month is refused with 14
+pub record RunKnown (file : List ℕ) (s : Sections) (applied curveNumbers beginnings : List ℕ) : Type 0 where
+  pub month : MonthKnown file s applied curveNumbers beginnings
   pub none_refuses : all_limited (month_of file) ≡ accepted
 
 -- a run of as many hours as losses are asked for lies in the month, and a place is lent for each figure

@@ -1,4 +1,4 @@
--- `run_hours::put_hour` meets its contract: each output is filled from the hour's place on. Assumes nothing.
+-- `month_run::put_hour` meets its contract: each output is filled from the hour's place on. Assumes nothing.
 use native.Mathlib.Omega.{arith}
 use lib.IntN.{ℤ}
 use lib.ListN.{set}
@@ -6,7 +6,7 @@ use mathlib.Core.Path.{◌∙◌, ap}
 use mir.Facts.{to_z-of_z}
 use mir.Syntax.{w64}
 use mir.Val.{SFits}
-use Rattle.run_hours.proofs.put_hour.Goals as goal
+use Rattle.month_run.proofs.put_hour.Goals as goal
 
 pub overflow_mul-place : goal.overflow_mul-place
 overflow_mul-place c = omega (arith, c.requires.distributed_fits_holds)

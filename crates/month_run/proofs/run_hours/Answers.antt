@@ -1,0 +1,57 @@
+-- `month_run::run_hours` meets its contract: of the hours that the walk has come past those of the run are written. Assumes nothing.
+use mathlib.Core.Path.{sym, ◌∙◌}
+use native.Mathlib.Omega.{arith}
+use Rattle.month_run.proofs.Going.{goes, residual_here_lem, few_here, in_run, running_here, step_asked, one_on, hour_asked, goes_on, ends}
+use Rattle.month_walk.proofs.Bounds.{few_hours}
+use Rattle.month_walk.proofs.Walking.{walk_window}
+use Rattle.month_run.proofs.run_hours.Goals as goal
+
+pub overflow_add-end : goal.overflow_add-end
+overflow_add-end c = omega (arith, c.requires.run_lent.inside, few_hours _ c.requires.run_known.month.windows.judged)
+
+pub loop-walk-init : goal.loop-walk-init
+loop-walk-init c = rw c.begin-walk.ensures (goes c.requires.run_known c.requires.beginning c.requires.window_len c.requires.run_lent)
+
+pub step-walk-requires : goal.step-walk-requires
+step-walk-requires c = record { month_known = c.requires.run_known.month; step_asked = step_asked c.requires.run_known c.requires.run_lent.inside c.loop-walk.invariant (omega arith) }
+
+pub offset_bounds-applied_wh-t : goal.offset_bounds-applied_wh-t
+offset_bounds-applied_wh-t c = omega (arith, few_here c.requires.run_known c.requires.run_lent.inside c.loop-walk.invariant (omega arith))
+
+pub bounds-applied_wh-t : goal.bounds-applied_wh-t
+bounds-applied_wh-t c =
+    residual_here_lem c.requires.run_known c.requires.run_lent.inside
+    c.loop-walk.invariant
+    (omega arith)
+
+pub run_hour-requires : goal.run_hour-requires
+run_hour-requires c =
+    record {
+      hour_asked = hour_asked c.requires.run_known c.requires.run_lent.inside c.loop-walk.invariant (omega arith) c.step-walk.ensures;
+      t_bound = in_run c.requires.run_known c.requires.run_lent.inside c.loop-walk.invariant (omega arith);
+      running = running_here c.requires.run_known c.requires.run_lent.inside c.loop-walk.invariant (omega arith);
+    }
+
+pub loop-walk-smaller : goal.loop-walk-smaller
+loop-walk-smaller c = omega (arith, one_on c.requires.run_known c.requires.run_lent.inside c.loop-walk.invariant (omega arith) c.step-walk.ensures)
+
+pub loop-walk-preserved : goal.loop-walk-preserved
+loop-walk-preserved c = goes_on c.requires.run_known c.requires.run_lent.inside c.loop-walk.invariant (omega arith) c.step-walk.ensures c.run_hour.ensures
+
+pub shape_of-window : goal.shape_of-window
+shape_of-window c = c.loop-walk.invariant.walked.holds.is.size ∙ sym c.requires.window_len
+
+pub shape_of-distributed_wh : goal.shape_of-distributed_wh
+shape_of-distributed_wh c = c.loop-walk.invariant.running.distributed.size ∙ sym c.requires.run_lent.distributed_size
+
+pub shape_of-periodised_wh : goal.shape_of-periodised_wh
+shape_of-periodised_wh c = c.loop-walk.invariant.running.periodised.size ∙ sym c.requires.run_lent.periodised_size
+
+pub shape_of-differences_wh : goal.shape_of-differences_wh
+shape_of-differences_wh c = c.loop-walk.invariant.running.differences.size ∙ sym c.requires.run_lent.differences_size
+
+pub shape_of-losses_wh : goal.shape_of-losses_wh
+shape_of-losses_wh c = c.loop-walk.invariant.running.losses.size
+
+pub returns : goal.returns
+returns c = record { run = ends c.requires.run_known c.loop-walk.invariant (omega arith); window = walk_window c.loop-walk.invariant.walked (omega (arith, c.requires.run_lent.some)) }

@@ -1,3 +1,0 @@
-pub mod OneHour
-pub mod Ready
-pub mod Going

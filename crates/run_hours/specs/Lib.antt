@@ -1,2 +1,0 @@
-pub mod InRun
-pub mod Running
