@@ -54,17 +54,17 @@ ReportPromised setting file lent r held =
     Report.Promised setting file lent.first lent.rest lent.parties r held.first held.rest held.parties
 
 -- the four lists of the planner: of each record a, b, the weight before its month and the weight of the whole reading
-pub record PlanLists : Type 0 where
+pub record PlanForC : Type 0 where
   pub from : List ℕ
   pub to : List ℕ
   pub before : List ℕ
   pub whole : List ℕ
 
-abbrev pub PlanLentPromised : LongReading → PlanLists → Answer → PlanLists → Type 0
+abbrev pub PlanLentPromised : LongReading → PlanForC → Answer → PlanForC → Type 0
 PlanLentPromised r lent a held =
     Plan.Promised r lent.from lent.to lent.before lent.whole a held.from held.to held.before held.whole
 
 -- and for C
-abbrev pub PlanForCPromised : LongReading → PlanLists → ℕ → PlanLists → Type 0
+abbrev pub PlanForCPromised : LongReading → PlanForC → ℕ → PlanForC → Type 0
 PlanForCPromised r lent n held =
     C.PlanPromised r lent.from lent.to lent.before lent.whole n held.from held.to held.before held.whole

@@ -9,7 +9,7 @@ use Rattle.answer.specs.declared.Refusal.{Refusal}
 use Rattle.answer_code.specs.Coded as Code
 use Rattle.curve_numbers.specs.Promised as Curve
 use Rattle.distribute_service.specs.Promised as Distribution
-use Rattle.every_service.specs.Lent.{HourLists, HourPromised, HourForC, HourForCPromised, PlanLists, PlanLentPromised, PlanForCPromised, RunOutputs, RunPromised, ReportBuffers, ReportPromised}
+use Rattle.every_service.specs.Lent.{HourLists, HourPromised, HourForC, HourForCPromised, PlanForC, PlanLentPromised, PlanForCPromised, RunOutputs, RunPromised, ReportBuffers, ReportPromised}
 use Rattle.file_sections.specs.Walk as File
 use Rattle.gln.specs.Promised as Gln
 use Rattle.invoice_service.specs.Promised as Invoice
@@ -57,7 +57,7 @@ pub record Services : Type 0 where
   pub amounts : (differences : List ℤ) (parties : ℕ) (prices lent : List ℤ) → OneFitsWith (Amounts.Promised differences parties prices lent)
   pub invoice : (amounts lent : List ℤ) → OneFitsWith (Invoice.Promised amounts lent)
   pub plan : (r : LongReading) → OneFits (Plan.Promised r)
-  pub plan_lent : (r : LongReading) (lent : PlanLists) → OneFitsWith (PlanLentPromised r lent)
+  pub plan_lent : (r : LongReading) (lent : PlanForC) → OneFitsWith (PlanLentPromised r lent)
 
 -- THE SAME FOR C: a number for the answer
 pub record ServicesForC : Type 0 where
@@ -72,7 +72,7 @@ pub record ServicesForC : Type 0 where
       → OneFitsWith (HourForCPromised residual distributed periodised carrier price lent)
   pub amounts : (differences : List ℤ) (parties : ℕ) (prices lent : List ℤ) → OneFitsWith (C.AmountsPromised differences parties prices lent)
   pub invoice : (amounts lent : List ℤ) → OneFitsWith (C.InvoicePromised amounts lent)
-  pub plan : (r : LongReading) (lent : PlanLists) → OneFitsWith (PlanForCPromised r lent)
+  pub plan : (r : LongReading) (lent : PlanForC) → OneFitsWith (PlanForCPromised r lent)
 
 -- ONE RECORD
 pub record Records : Type 0 where

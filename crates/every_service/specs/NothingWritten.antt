@@ -6,7 +6,7 @@ use Rattle.amounts_service.specs.Promised as Amounts
 use Rattle.answer.specs.Said.{said}
 use Rattle.curve_numbers.specs.Promised as Curve
 use Rattle.distribute_service.specs.Promised as Distribution
-use Rattle.every_service.specs.Lent.{HourLists, HourPromised, HourForC, HourForCPromised, PlanLists, PlanLentPromised, PlanForCPromised, RunOutputs, RunPromised, ReportBuffers, ReportPromised}
+use Rattle.every_service.specs.Lent.{HourLists, HourPromised, HourForC, HourForCPromised, PlanForC, PlanLentPromised, PlanForCPromised, RunOutputs, RunPromised, ReportBuffers, ReportPromised}
 use Rattle.invoice_service.specs.Promised as Invoice
 use Rattle.month_demands.specs.Demands as Month
 use Rattle.month_service.specs.Told as Month'
@@ -63,7 +63,7 @@ pub record NothingWritten : Type 0 where
       (differences : List ℤ) (parties : ℕ) (prices lent : List ℤ)
       → Unwritten (Refuses said) lent (Amounts.Promised differences parties prices lent)
   pub invoice : (amounts lent : List ℤ) → Unwritten (Refuses said) lent (Invoice.Promised amounts lent)
-  pub plan_lent : (r : LongReading) (lent : PlanLists) → Unwritten (Refuses said) lent (PlanLentPromised r lent)
+  pub plan_lent : (r : LongReading) (lent : PlanForC) → Unwritten (Refuses said) lent (PlanLentPromised r lent)
   pub residual_for_C :
       (statuses : List ℕ) (nets : List ℤ) (productions hourlies flexes lent : List ℕ)
       → Unwritten NotZero lent (C.ResidualPromised statuses nets productions hourlies flexes lent)
@@ -77,7 +77,7 @@ pub record NothingWritten : Type 0 where
       (differences : List ℤ) (parties : ℕ) (prices lent : List ℤ)
       → Unwritten NotZero lent (C.AmountsPromised differences parties prices lent)
   pub invoice_for_C : (amounts lent : List ℤ) → Unwritten NotZero lent (C.InvoicePromised amounts lent)
-  pub plan_for_C : (r : LongReading) (lent : PlanLists) → Unwritten NotZero lent (PlanForCPromised r lent)
+  pub plan_for_C : (r : LongReading) (lent : PlanForC) → Unwritten NotZero lent (PlanForCPromised r lent)
   pub write : (r : Record) (gln brp_gln lent : List ℕ) → Unwritten (Refuses wrote_verdict) lent (Write.Promised r gln brp_gln lent)
   pub write_plain :
       (kind : ℕ) (numbers : List ℤ) (gln brp_gln lent : List ℕ)
