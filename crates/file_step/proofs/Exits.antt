@@ -1,10 +1,10 @@
 -- The exits of a step, each with its answer: what it means for the month read so far, and how far it moves.
-use mathlib.Core.Bool.{Bool, true, false, cond, not}
+use mathlib.Core.Bool.{Bool, true, false, cond}
 use mathlib.Core.List.{List}
 use mathlib.Core.Path.{◌≡◌, refl, sym, ◌∙◌, ap, ap₂, subst}
 use Prim.Native.Nat.{ℕ, ◌+◌, ◌≤◌, ◌<◌}
 use native.Mathlib.Omega.{arith}
-use borrow.Author.Tests.{not-true, not-false, le-leb}
+use borrow.Author.Tests.{le-leb}
 use lib.Dec.{eqb}
 use lib.ListN.{length, get_or, drop}
 use Rattle.answer.specs.Said.{said}
@@ -134,11 +134,11 @@ module _ {w : Walk} {bytes : List ℕ} {size : ℕ} where
     decodable = record { known_kind = known_kind; fits = whole_fits }
 
     module _ (r : Record) (is : record_of (glns_in bytes) r ≡ R.record_at bytes) {d : Bool} (d-is : d ≡ due_in w r) where
-      pub exit_order : not d ≡ true → Stepped w bytes (S.Refused OutOfOrder w.records)
-      exit_order e = record { means = λ m st. G.not_due m w st bytes k.some whole_fits r is (sym d-is ∙ not-true d e); moves = tt }
+      pub exit_order : d ≡ false → Stepped w bytes (S.Refused OutOfOrder w.records)
+      exit_order e = record { means = λ m st. G.not_due m w st bytes k.some whole_fits r is (sym d-is ∙ e); moves = tt }
 
-      pub due : not d ≡ false → Due w bytes size r
-      due e = record { standing = k; is = is; due = sym d-is ∙ not-false d e }
+      pub due : d ≡ true → Due w bytes size r
+      due e = record { standing = k; is = is; due = sym d-is ∙ e }
 
   module _ {r : Record} {a : Answer} where
     pub judged : Due w bytes size r → said a ≡ fault_of w.heading.hours w.heading.parties (glns_in bytes) r w.records → Judged w bytes size r a

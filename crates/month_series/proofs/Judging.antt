@@ -1,12 +1,12 @@
 -- 18 and 13 of a reading as it is spread: the code compares the month's own weight with what the weight before leaves of the whole, which says of the true sum
 -- what the rules say.
-use mathlib.Core.Bool.{Bool, true, false, not, ◌&&◌}
+use mathlib.Core.Bool.{Bool, true, false, ◌&&◌}
 use mathlib.Core.Path.{◌≡◌, refl, sym, ◌∙◌, ap}
 use Prim.Native.Nat.{ℕ, ◌+◌, ◌-◌, ◌≤◌, ◌<◌}
 use native.Mathlib.Omega.{arith}
 use borrow.Author.Tests.{le-leb, lt-leb, leb-true, leb-false}
 use lib.Dec.{leb}
-use Rattle.answer.proofs.Checks.{flag_off, flag_on, test_refuses, test_passes, none_left}
+use Rattle.answer.proofs.Checks.{test_refuses, test_passes, none_left}
 use Rattle.month_series.specs.Series.{spread_checks}
 use Rattle.periodise.specs.declared.Spread.{Spread}
 use Rattle.rules.specs.Limits.{greatest_whole}
@@ -31,17 +31,17 @@ module _ (before own whole : ℕ) where
 
 -- 18, then 13
 module _ (s : Spread) (own j : ℕ) {fits : Bool} (fits-is : fits ≡ weights_fit s.before own s.whole) where
-  pub exceeded : not fits ≡ true → refused whole_exceeded j ≡ first (spread_checks s own j)
+  pub exceeded : fits ≡ false → refused whole_exceeded j ≡ first (spread_checks s own j)
   unfolding spread_checks
-  exceeded e = test_refuses _ (sym fits-is ∙ flag_off fits e)
+  exceeded e = test_refuses _ (sym fits-is ∙ e)
 
-  module _ (passed : not fits ≡ false) {follows : Bool} (follows_is : follows ≡ follows_whole s.e_wh s.whole) where
-    pub nothing_there : not follows ≡ true → refused nothing_to_follow j ≡ first (spread_checks s own j)
+  module _ (passed : fits ≡ true) {follows : Bool} (follows_is : follows ≡ follows_whole s.e_wh s.whole) where
+    pub nothing_there : follows ≡ false → refused nothing_to_follow j ≡ first (spread_checks s own j)
     unfolding spread_checks
-    nothing_there e = test_passes whole_exceeded j _ (sym fits-is ∙ flag_on fits passed) (test_refuses _ (sym follows_is ∙ flag_off follows e))
+    nothing_there e = test_passes whole_exceeded j _ (sym fits-is ∙ passed) (test_refuses _ (sym follows_is ∙ e))
 
-    pub both_hold : not follows ≡ false → accepted ≡ first (spread_checks s own j)
+    pub both_hold : follows ≡ true → accepted ≡ first (spread_checks s own j)
     unfolding spread_checks
     both_hold e =
-        test_passes whole_exceeded j _ (sym fits-is ∙ flag_on fits passed)
-        (test_passes nothing_to_follow j _ (sym follows_is ∙ flag_on follows e) none_left)
+        test_passes whole_exceeded j _ (sym fits-is ∙ passed)
+        (test_passes nothing_to_follow j _ (sym follows_is ∙ e) none_left)

@@ -31,7 +31,7 @@ make-made-requires c =
 pub returns : goal.returns
 returns c =
     prepared _ _ c.requires c.make-made.ensures
-    (stands _ _ _ c.hour_places-fixed_wh.ensures (few_hours _ _ c.requires) c.fixed_wh-2-1.given)
-    (stands _ _ _ c.hour_places-refixed_wh.ensures (few_refixed _ _ c.requires) c.refixed_wh-2-1.given)
-    (stands _ _ _ c.hour_places-curve.ensures (few_hours _ _ c.requires) c.curve-2-1.given)
-    (stands _ _ _ c.beginning_places-beginnings.ensures (omega (arith, few_hours _ _ c.requires)) c.beginnings-2-1.given)
+    (stands _ _ _ c.hour_places-fixed_wh.ensures (few_hours _ _ c.requires) (search rules))
+    (stands _ _ _ c.hour_places-refixed_wh.ensures (few_refixed _ _ c.requires) (search rules))
+    (stands _ _ _ c.hour_places-curve.ensures (few_hours _ _ c.requires) (search rules))
+    (stands _ _ _ c.beginning_places-beginnings.ensures (omega (arith, few_hours _ _ c.requires)) (search rules))

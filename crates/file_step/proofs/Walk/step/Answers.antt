@@ -1,24 +1,43 @@
 -- `file_step::Walk::step` meets its contract: `Exits` says why, exit by exit. Assumes nothing.
+use Rattle.file_step.specs.declared.Walk as W
 use Rattle.file_step.proofs.Exits as E
+use Rattle.file_step.proofs.Walk.step.Goals.{After-body_length-size, Else-rest-size, After-fault_of_part-a}
 use Rattle.file_step.proofs.Walk.step.Goals as goal
 
+-- what is known of the record once its kind is looked up, once it is known to stand whole, and once its fields are judged
+sized : (c : After-body_length-size) → E.Sized c.args.self c.args.rest.now c.body_length-size.result
+sized c = E.sized c.requires c.body_length-size.ensures
+
+standing : (c : Else-rest-size) → E.Standing c.args.self c.args.rest.now c.body_length-size.result
+standing c = E.standing (E.sized c.requires c.body_length-size.ensures) c.if-size-eq0.false c.if-rest-size.false
+
+judged : (c : After-fault_of_part-a) → E.Standing c.args.self c.args.rest.now c.body_length-size.result
+    → E.Judged c.args.self c.args.rest.now c.body_length-size.result c.decode-r.result c.fault_of_part-a.result
+judged c whole = E.judged (E.due whole c.decode-r.result c.decode-r.ensures c.due.ensures c.if-not-due.false) c.fault_of_part-a.ensures
+
 pub returns-then-size-eq0 : goal.returns-then-size-eq0
-returns-then-size-eq0 c = E.exit_unknown ((E.sized c.requires c.body_length-size.ensures)) c.if-size-eq0.true
+returns-then-size-eq0 c = E.exit_unknown (sized (goal.at.returns-then-size-eq0 c).After-body_length-size) c.if-size-eq0.true
 
 pub returns-then-rest-size : goal.returns-then-rest-size
-returns-then-rest-size c = E.exit_cut ((E.sized c.requires c.body_length-size.ensures)) c.if-size-eq0.false c.if-rest-size.true
+returns-then-rest-size c = E.exit_cut (sized (goal.at.returns-then-rest-size c).After-body_length-size) c.if-size-eq0.false c.if-rest-size.true
 
 pub decode-r-requires : goal.decode-r-requires
-decode-r-requires c = E.decodable ((E.standing ((E.sized c.requires c.body_length-size.ensures)) c.if-size-eq0.false c.if-rest-size.false))
+decode-r-requires c = E.decodable (standing c)
 
 pub returns-then-not-due : goal.returns-then-not-due
-returns-then-not-due c = E.exit_order ((E.standing ((E.sized c.requires c.body_length-size.ensures)) c.if-size-eq0.false c.if-rest-size.false)) c.decode-r.result c.decode-r.ensures c.due.ensures c.if-not-due.true-raw
+returns-then-not-due c = E.exit_order (standing (goal.at.returns-then-not-due c).Else-rest-size) c.decode-r.result c.decode-r.ensures c.due.ensures c.if-not-due.true
 
 pub returns-in-Refused : goal.returns-in-Refused
-returns-in-Refused c = E.exit_fault ((E.judged ((E.due ((E.standing ((E.sized c.requires c.body_length-size.ensures)) c.if-size-eq0.false c.if-rest-size.false)) c.decode-r.result c.decode-r.ensures c.due.ensures c.if-not-due.false-raw)) c.fault_of_part-a.ensures)) c.in-Refused.is
+returns-in-Refused c =
+    let at_end = goal.at.returns-in-Refused c in
+    E.exit_fault (judged at_end.After-fault_of_part-a (standing at_end.Else-rest-size)) c.in-Refused.is
 
 pub judged-requires : goal.judged-requires
-judged-requires c = E.judged_asks ((E.judged ((E.due ((E.standing ((E.sized c.requires c.body_length-size.ensures)) c.if-size-eq0.false c.if-rest-size.false)) c.decode-r.result c.decode-r.ensures c.due.ensures c.if-not-due.false-raw)) c.fault_of_part-a.ensures))
+judged-requires c =
+    let at_end = goal.at.judged-requires c in
+    E.judged_asks (judged at_end.After-fault_of_part-a (standing at_end.Else-rest-size))
 
 pub returns : goal.returns
-returns c = E.exit_judged ((E.judged ((E.due ((E.standing ((E.sized c.requires c.body_length-size.ensures)) c.if-size-eq0.false c.if-rest-size.false)) c.decode-r.result c.decode-r.ensures c.due.ensures c.if-not-due.false-raw)) c.fault_of_part-a.ensures)) c.in_default.is c.judged.ensures
+returns c =
+    let at_end = goal.at.returns c in
+    E.exit_judged (judged at_end.After-fault_of_part-a (standing at_end.Else-rest-size)) c.in_default.is c.judged.ensures
