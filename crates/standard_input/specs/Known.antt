@@ -1,7 +1,7 @@
 -- Reading from a reader whose bytes are known, as those of a slice are: which of them a read gave, and which input a whole reading had. Of a file or a pipe nothing is
 -- known (`None`), and nothing is said.
 use Rattle.std.specs.Prelude.{List, ℕ, ◌<◌, length, take, IfSome, Option}
-use Rattle.std.specs.Io.KnownBytes.{Consumes, IsAtEnd}
+use Rattle.std.specs.Io.KnownBytes.{Appends, Consumes, IsAtEnd}
 use Rattle.standard_input.specs.Reading.{InputOf}
 use Rattle.standard_input.specs.declared.Ending.{Ending}
 use Rattle.standard_input.specs.declared.Ending.TheVariants.{Whole, TooLong, Failed}
@@ -25,3 +25,7 @@ abbrev pub InputRead : Ending → Option (List ℕ) → List ℕ → Type 0
 InputRead Whole known bytes = IfSome known (InputOf Whole bytes)
 InputRead TooLong known bytes = IfSome known (InputOf TooLong bytes)
 InputRead Failed known bytes = Unit
+
+-- WHAT A PROGRAM WRITES: to a writer whose bytes are known it adds the report of every input that the reading can have had, and nothing else
+abbrev pub Writes : (List ℕ → List ℕ) → Ending → List ℕ → Option (List ℕ) → Option (List ℕ) → Type 0
+Writes report ending bytes old new = (input : List ℕ) → InputOf ending bytes input → Appends old new (report input)

@@ -33,6 +33,13 @@ pub enum Ending {
     Failed,
 }
 
+// Which stream failed a program: its input could not be read, or its answer not be written.
+#[derive(Clone, Copy)]
+pub enum Fault {
+    Input,
+    Output,
+}
+
 // So many bytes of the buffer are filled, and how that ended. A count of its own: it is within the buffer however the reading ended.
 #[derive(Clone, Copy)]
 pub struct Input {
