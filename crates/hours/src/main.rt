@@ -6,17 +6,20 @@
 // this order and arrive, no contract can say: those of `libc::read` and `libc::write` speak of the count of one call alone. tests/streams tries it.
 #![tactic(auto)]
 
-ghost use Rattle.std.specs.Prelude.{length, ◌≡◌};
+ghost use Rattle.std.specs.Prelude.{length, ◌≡◌, ◌++◌, OnOk, IfErr, IfSome, IsErrOf};
+ghost use Rattle.std.specs.Io.KnownBytes.{Appends, Keeps};
 ghost use Rattle.hours.specs.Printed.{Within, printed};
 ghost use Rattle.report_text.specs.Lines.{Roomy, first_room, rest_room, parties_room};
 ghost use Rattle.rules.specs.HoursReport.{hours_report};
 ghost use Rattle.rules.specs.Setting.{final};
+ghost use Rattle.standard_input.specs.Known.{Writes};
 ghost use Rattle.standard_input.specs.Reading.{FullyRead, TextOf};
 
-use libc::{STDERR_FILENO, STDOUT_FILENO};
 use report_text::Reported;
 use setting::Setting;
-use standard_input::Ending;
+use standard_input::{Ending, Fault};
+use std::io::{Read, Write};
+use std::process::ExitCode;
 
 // The most bytes of each part.
 const FIRST_ROOM: usize = report_text::FIRST_ROOM;
@@ -102,31 +105,32 @@ fn input_text(
     }
 }
 
-// Says a failure on standard error; where that fails too, there is nowhere left to say it. A program has no exit status: a failure is told here alone, with no
-// answer or a part of one on standard output.
-fn complain(message: &[u8]) {
-    io::write_all(STDERR_FILENO, message);
-}
-
-// Prints all of a text, however many writes it takes, and says the first that fails; whether none did.
-fn print(text: &[u8]) -> bool {
-    let all = io::write_all(STDOUT_FILENO, text);
-    if !all {
-        complain(b"hours: standard output cannot be written\n");
+// Prints all of a text, however many writes it takes.
+fn print<W: Write>(to: &mut W, text: &[u8]) -> Result<(), Fault>
+    ensures written { OnOk result (Appends (W.contents to.old) (W.contents to.new) text.now) }
+    ensures unwritten { IfErr result (λ fault. fault ≡ Fault.Output) }
+{
+    match to.write_all(text) {
+        Ok(()) => Ok(()),
+        Err(_) => Err(Fault::Output),
     }
-    all
 }
 
 // One part after the other, and none after a part that could not be handed over.
-fn print_parts(first: &[u8], rest: &[u8], parties: &[u8]) {
-    if print(first) && print(rest) {
-        print(parties);
-    }
+fn print_parts<W: Write>(to: &mut W, first: &[u8], rest: &[u8], parties: &[u8]) -> Result<(), Fault>
+    ensures written { OnOk result (Appends (W.contents to.old) (W.contents to.new) (first.now ++ rest.now ++ parties.now)) }
+    ensures unwritten { IfErr result (λ fault. fault ≡ Fault.Output) }
+{
+    print(to, first)?;
+    print(to, rest)?;
+    print(to, parties)
 }
 
 // An input that could be read: its report, or its refusal.
-fn print_input(ending: Ending, file: &[u8])
+fn print_input<W: Write>(to: &mut W, ending: Ending, file: &[u8]) -> Result<(), Fault>
     requires { FullyRead ending file.now }
+    ensures written { OnOk result (Writes (hours_report final) ending file.now (W.contents to.old) (W.contents to.new)) }
+    ensures unwritten { IfErr result (λ fault. fault ≡ Fault.Output) }
 {
     let mut first = first_room();
     let mut rest = rest_room();
@@ -135,15 +139,34 @@ fn print_input(ending: Ending, file: &[u8])
     let a = parts.first;
     let b = parts.rest;
     let c = parts.parties;
-    print_parts(&first[0..a], &rest[0..b], &parties[0..c]);
+    print_parts(to, &first[0..a], &rest[0..b], &parties[0..c])
 }
 
-fn main() {
-    let mut buffer = io::large_buffer();
-    let input = standard_input::read_month(&mut buffer);
+// THE PROGRAM, from a reader and to a writer: of an input that is known, what is written is its report, and nothing else; and of one that could not be read nothing.
+fn run<R: Read, W: Write>(from: &mut R, to: &mut W) -> Result<(), Fault>
+    ensures reported { OnOk result (IfSome (R.remaining from.old) (λ input. Appends (W.contents to.old) (W.contents to.new) (hours_report final input))) }
+    ensures unread { IsErrOf result Fault.Input → Keeps (W.contents to.old) (W.contents to.new) }
+{
+    let mut buffer = standard_input::month_buffer();
+    let input = standard_input::read_month(from, &mut buffer);
     let ending = input.ending;
     match ending {
-        Ending::Failed => complain(b"hours: standard input cannot be read\n"),
-        _ => print_input(ending, standard_input::bytes_read(&buffer, input)),
+        Ending::Failed => Err(Fault::Input),
+        _ => print_input(to, ending, standard_input::bytes_read(&buffer, input)),
+    }
+}
+
+// Says a failure on standard error, beside the exit status; where that fails too, there is nowhere left to say it. There is no answer, or a part of one, on standard
+// output.
+fn complain(rt: &impl Eprint, message: &str) -> ExitCode {
+    let _ = rt.eprintln(message);
+    ExitCode::FAILURE
+}
+
+fn main(rt: HostRuntime) -> ExitCode {
+    match run(&mut rt.stdin(), &mut rt.stdout()) {
+        Ok(()) => ExitCode::SUCCESS,
+        Err(Fault::Input) => complain(&rt, "hours: standard input cannot be read"),
+        Err(Fault::Output) => complain(&rt, "hours: standard output cannot be written"),
     }
 }

@@ -6,16 +6,19 @@
 // contract can say: those of `libc::read` and `libc::write` speak of the count of one call alone. tests/streams tries it.
 #![tactic(auto)]
 
-ghost use Rattle.std.specs.Prelude.{length, take, ◌≤◌};
+ghost use Rattle.std.specs.Prelude.{length, take, ◌≤◌, OnOk, IfErr, IfSome, IsErrOf, ◌≡◌};
+ghost use Rattle.std.specs.Io.KnownBytes.{Appends, Keeps};
 ghost use Rattle.rules.specs.Setting.{provisional};
 ghost use Rattle.rules.specs.Statement.{statement};
+ghost use Rattle.standard_input.specs.Known.{Writes};
 ghost use Rattle.standard_input.specs.Reading.{FullyRead, TextOf};
 ghost use Rattle.statement_text.specs.Stating.{statement_room};
 
-use libc::{STDERR_FILENO, STDOUT_FILENO};
 use setting::Setting;
-use standard_input::Ending;
+use standard_input::{Ending, Fault};
 use statement_text::Per;
+use std::io::{Read, Write};
+use std::process::ExitCode;
 
 // The text of an input at the start of `out`, by how its reading ended: THE PROVISIONAL STATEMENT OF THE INPUT.
 fn input_text(ending: Ending, file: &[u8], out: &mut [u8]) -> usize
@@ -27,35 +30,53 @@ fn input_text(ending: Ending, file: &[u8], out: &mut [u8]) -> usize
     statement_input::input_text(ending, file, Setting::Provisional, Per::Party, out)
 }
 
-// Says a failure on standard error; where that fails too, there is nowhere left to say it. A program has no exit status: a failure is told here alone, with no
-// answer or a part of one on standard output.
-fn complain(message: &[u8]) {
-    io::write_all(STDERR_FILENO, message);
-}
-
-// Prints all of a text, however many writes it takes, and says the first that fails.
-fn print(text: &[u8]) {
-    let all = io::write_all(STDOUT_FILENO, text);
-    if !all {
-        complain(b"preview: standard output cannot be written\n");
+// Prints all of a text, however many writes it takes.
+fn print<W: Write>(to: &mut W, text: &[u8]) -> Result<(), Fault>
+    ensures written { OnOk result (Appends (W.contents to.old) (W.contents to.new) text.now) }
+    ensures unwritten { IfErr result (λ fault. fault ≡ Fault.Output) }
+{
+    match to.write_all(text) {
+        Ok(()) => Ok(()),
+        Err(_) => Err(Fault::Output),
     }
 }
 
 // An input that could be read: its statement, or its refusal.
-fn print_input(ending: Ending, file: &[u8])
+fn print_input<W: Write>(to: &mut W, ending: Ending, file: &[u8]) -> Result<(), Fault>
     requires { FullyRead ending file.now }
+    ensures written { OnOk result (Writes (statement provisional) ending file.now (W.contents to.old) (W.contents to.new)) }
+    ensures unwritten { IfErr result (λ fault. fault ≡ Fault.Output) }
 {
     let mut out = statement_input::room();
     let n = input_text(ending, file, &mut out);
-    print(&out[0..n]);
+    print(to, &out[0..n])
 }
 
-fn main() {
-    let mut buffer = io::large_buffer();
-    let input = standard_input::read_month(&mut buffer);
+// THE PROGRAM, from a reader and to a writer: of an input that is known, what is written is its report, and nothing else; and of one that could not be read nothing.
+fn run<R: Read, W: Write>(from: &mut R, to: &mut W) -> Result<(), Fault>
+    ensures reported { OnOk result (IfSome (R.remaining from.old) (λ input. Appends (W.contents to.old) (W.contents to.new) (statement provisional input))) }
+    ensures unread { IsErrOf result Fault.Input → Keeps (W.contents to.old) (W.contents to.new) }
+{
+    let mut buffer = standard_input::month_buffer();
+    let input = standard_input::read_month(from, &mut buffer);
     let ending = input.ending;
     match ending {
-        Ending::Failed => complain(b"preview: standard input cannot be read\n"),
-        _ => print_input(ending, standard_input::bytes_read(&buffer, input)),
+        Ending::Failed => Err(Fault::Input),
+        _ => print_input(to, ending, standard_input::bytes_read(&buffer, input)),
+    }
+}
+
+// Says a failure on standard error, beside the exit status; where that fails too, there is nowhere left to say it. There is no answer, or a part of one, on standard
+// output.
+fn complain(rt: &impl Eprint, message: &str) -> ExitCode {
+    let _ = rt.eprintln(message);
+    ExitCode::FAILURE
+}
+
+fn main(rt: HostRuntime) -> ExitCode {
+    match run(&mut rt.stdin(), &mut rt.stdout()) {
+        Ok(()) => ExitCode::SUCCESS,
+        Err(Fault::Input) => complain(&rt, "preview: standard input cannot be read"),
+        Err(Fault::Output) => complain(&rt, "preview: standard output cannot be written"),
     }
 }

@@ -1,13 +1,16 @@
 -- What is printed of an input, by how its reading ended: of one that is too long its refusal line. That this is its report is one law for every program whose report
 -- of an input that is too long is that line.
 use mathlib.Core.List.{List}
-use mathlib.Core.Path.{◌≡◌, sym, ◌∙◌, ap, subst}
+use mathlib.Core.Path.{◌≡◌, refl, sym, ◌∙◌, ap, subst}
 use Prim.Native.Nat.{ℕ, ◌<◌}
 use native.Mathlib.Omega.{arith}
 use lib.ListN.{length}
+use Rattle.std.specs.Prelude.{None, Some, IfSome, Option}
+use Rattle.std.specs.Io.KnownBytes.{Appends}
 use Rattle.rules.specs.Limits.{longest_file}
 use Rattle.rules.specs.Refusals.{file_fault}
 use Rattle.rules.specs.Statement.{refusal_line}
+use Rattle.standard_input.specs.Known.{InputRead, Writes}
 use Rattle.standard_input.specs.Reading.{FullyRead, ended, ended_text, TextOf}
 use Rattle.standard_input.specs.declared.Ending.{Ending}
 use Rattle.standard_input.specs.declared.Ending.TheVariants.{Whole, TooLong, Failed}
@@ -31,3 +34,17 @@ module _ (report : List ℕ → List ℕ) (bytes : List ℕ) {ending : Ending} {
   -- it could not be read: there is no such input
   pub failed_text : ending ≡ Failed → TextOf report ending bytes printed
   failed_text e = rw e (λ input never. absurd never)
+
+-- WHAT A PROGRAM WRITES, of a reader whose bytes are known: their report
+pub known_written :
+    (report : List ℕ → List ℕ) (ending : Ending) (known : Option (List ℕ)) (old new : Option (List ℕ)) {bytes taken : List ℕ}
+    → (ending ≡ Failed → ⊥)
+    → InputRead ending known taken
+    → bytes ≡ taken
+    → Writes report ending bytes old new
+    → IfSome known (λ input. Appends old new (report input))
+known_written report Whole None old new was_read read same writes = tt
+known_written report Whole (Some input) old new was_read read same writes = writes input (read ∙ sym same)
+known_written report TooLong None old new was_read read same writes = tt
+known_written report TooLong (Some input) old new was_read read same writes = writes input (rw same read)
+known_written report Failed known old new was_read read same writes = absurd (was_read refl)

@@ -1,18 +1,21 @@
 // Standard input, as the programs use it: a month file is read piece by piece, however many reads it takes.
 //
 // What is proved: each function is safe and ends, given that each read returns; what was read lies within the buffer, and fills it where the input is told as too
-// long; and the line that is printed of such an input is 1 at 0. What no contract can say, since that of
-// `libc::read` speaks of the count of one call alone: that the bytes of the buffer are those of standard input, all of them. tests/streams tries that on the running
-// programs. Each program writes by itself: of `io::write_all` nothing is promised, so nothing could be promised of a public function that calls it.
+// long; of a reader whose bytes are known, as those of a slice are, what was read is those bytes, all of them; and the line that is printed of an input that is too
+// long is 1 at 0. What no contract can say: which bytes standard input gives. tests/streams tries that on the running programs.
 #![tactic(auto)]
 
 ghost use Rattle.std.specs.Prelude.{length, take, ◌≡◌, ◌≤◌};
 ghost use Rattle.rules.specs.Limits.{longest_file};
+ghost use Rattle.standard_input.specs.Known.{PieceOf, PastOf, InputRead};
 ghost use Rattle.standard_input.specs.Reading.{PieceWithin, Full, FullyRead, ended, ended_text};
 ghost use Rattle.text.specs.Text.{LinePut, longest_refusal_line};
 
 use answer::Refusal;
-use libc::STDIN_FILENO;
+use std::io::Read;
+
+// "At most 65,536 bytes".
+const LONGEST_FILE: usize = limits::LONGEST_FILE;
 
 // What one read gives: bytes at the start of the part it was lent, the end of the input, or a failure.
 #[derive(Clone, Copy)]
@@ -30,6 +33,13 @@ pub enum Ending {
     Failed,
 }
 
+// Which stream failed a program: its input could not be read, or its answer not be written.
+#[derive(Clone, Copy)]
+pub enum Fault {
+    Input,
+    Output,
+}
+
 // So many bytes of the buffer are filled, and how that ended. A count of its own: it is within the buffer however the reading ended.
 #[derive(Clone, Copy)]
 pub struct Input {
@@ -37,25 +47,25 @@ pub struct Input {
     pub ending: Ending,
 }
 
-// One read into a part that is not empty. Only an answer of 0 is the end of the input; -1 is a failure for whatever reason, since `libc` does not show it. (A read
-// is interrupted only by a signal that the program handles, and it handles none.)
-fn read_piece(part: &mut [u8]) -> Piece
-    ensures { PieceWithin result (length part.new) }
+// One read into a part that is not empty. Only an answer of 0 is the end of the input; an error is a failure for whatever reason. (A read is interrupted only by a
+// signal that the program handles, and it handles none.)
+fn read_piece<R: Read>(from: &mut R, part: &mut [u8]) -> Piece
+    ensures within { PieceWithin result (length part.new) }
+    ensures known { PieceOf result (R.remaining from.old) (R.remaining from.new) part.new }
 {
-    let got = libc::read(STDIN_FILENO, part);
-    if 0 < got {
-        return Piece::Bytes(got as usize);
+    match from.read(part) {
+        Ok(0) => Piece::End,
+        Ok(n) => Piece::Bytes(n),
+        Err(_) => Piece::Failed,
     }
-    if got == 0 {
-        return Piece::End;
-    }
-    Piece::Failed
 }
 
 // After a full buffer: a byte more is an input that is too long.
-fn read_past() -> Ending {
+fn read_past<R: Read>(from: &mut R) -> Ending
+    ensures { PastOf result (R.remaining from.old) }
+{
     let mut more = [0u8; 1];
-    let piece = read_piece(&mut more);
+    let piece = read_piece(from, &mut more);
     match piece {
         Piece::Bytes(_) => Ending::TooLong,
         Piece::End => Ending::Whole,
@@ -63,14 +73,22 @@ fn read_past() -> Ending {
     }
 }
 
+// The buffer for the longest file.
+pub fn month_buffer() -> [u8; LONGEST_FILE]
+    ensures { longest_file ≡ length result }
+{
+    [0; LONGEST_FILE]
+}
+
 // "Reads one month file from standard input.": piece by piece, however it arrives, until it ends or is too long.
-pub fn read_month(buffer: &mut [u8]) -> Input
+pub fn read_month<R: Read>(from: &mut R, buffer: &mut [u8]) -> Input
     ensures within { result.filled ≤ length buffer.new }
     ensures full { Full result.ending result.filled (length buffer.new) }
+    ensures known { InputRead result.ending (R.remaining from.old) (take result.filled buffer.new) }
 {
     let mut filled: usize = 0;
     while filled < buffer.len() {
-        let piece = read_piece(&mut buffer[filled..]);
+        let piece = read_piece(from, &mut buffer[filled..]);
         match piece {
             Piece::Bytes(n) => {
                 filled += n;
@@ -89,7 +107,7 @@ pub fn read_month(buffer: &mut [u8]) -> Input
             }
         }
     }
-    let ending = read_past();
+    let ending = read_past(from);
     Input {
         filled: filled,
         ending: ending,

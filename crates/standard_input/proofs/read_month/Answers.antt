@@ -1,26 +1,23 @@
--- `standard_input::read_month` meets its contract. The loop keeps the buffer's length and fills it piece by piece; the measure is what is still free.
--- Assumes nothing.
-use native.Mathlib.Omega.{arith}
-use Rattle.standard_input.proofs.Counts.{turn, full}
+-- `standard_input::read_month` meets its contract: a piece that was read stands after what was read before it. Assumes nothing.
+use Rattle.std.proofs.Common.{◌≡◌, ◌+◌, ◌≤◌, ℕ, List, ◌++◌, length, take, arith, sym, ap, ◌∙◌, subst, length-take-le}
+use Rattle.std.specs.Io.KnownBytes.{Consumes}
+use Rattle.std.proofs.Math.Seq.{take-append-add}
+use Rattle.std.proofs.KnownBytes.{Consumes-trans}
+use Rattle.std.proofs.lemmas.List.{take-append-le}
 use Rattle.standard_input.proofs.read_month.Goals as goal
 
-pub overflow_add-filled : goal.overflow_add-filled
-overflow_add-filled c =
-    omega (
-      arith,
-      ((turn c.read_piece-piece.new.0 c.loop-filled.invariant c.buffer-1.given c.in-Bytes.is
-          c.read_piece-piece.ensures)).room,
-    )
-
-pub loop-filled-smaller : goal.loop-filled-smaller
-loop-filled-smaller c =
-    ((turn c.read_piece-piece.new.0 c.loop-filled.invariant c.buffer-1.given c.in-Bytes.is
-    c.read_piece-piece.ensures)).less
+-- n bytes of a piece that stands in a list from the place a on
+with_piece : (a n : ℕ) (xs piece after : List ℕ) → a ≤ length xs → n ≤ length piece → take (a + n) (take a xs ++ (piece ++ after)) ≡ take a xs ++ take n piece
+with_piece a n xs piece after within fits =
+    ap (λ m. take (m + n) (take a xs ++ (piece ++ after))) (sym (length-take-le a xs within))
+    ∙ take-append-add (take a xs) (piece ++ after) n
+    ∙ ap (λ l. take a xs ++ l) (take-append-le n piece after fits)
 
 pub loop-filled-preserved : goal.loop-filled-preserved
-loop-filled-preserved c =
-    ((turn c.read_piece-piece.new.0 c.loop-filled.invariant c.buffer-1.given c.in-Bytes.is
-    c.read_piece-piece.ensures)).again
-
-pub returns : goal.returns
-returns c = let both = full c.read_past-ending.result c.loop-filled.invariant c.loop-filled-test.false in record { within = both.0; full = both.1 }
+loop-filled-preserved g c =
+    let so_far = c.loop-filled.invariant in
+    let got = c.in-Bytes.ensures in (
+      omega arith,
+      subst (Consumes _ _) (sym (with_piece c.loop-filled.filled c.in-Bytes.n c.loop-filled.buffer c.read_piece-piece.new.part _ so_far.0 got.within.1))
+          (Consumes-trans _ _ _ _ _ so_far.1 got.known),
+    )

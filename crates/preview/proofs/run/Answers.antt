@@ -1,0 +1,14 @@
+-- `preview::run` meets its contract: of an input that is known the report is written. Assumes nothing.
+use Rattle.std.proofs.Common.{rules}
+use Rattle.std.proofs.lemmas.Result.{on_ok_weaker}
+use Rattle.rules.specs.Setting.{provisional}
+use Rattle.rules.specs.Statement.{statement}
+use Rattle.standard_input.proofs.Endings.{known_written}
+use Rattle.preview.proofs.run.Goals as goal
+
+pub returns-in_default : goal.returns-in_default
+returns-in_default g c = record {
+  reported =
+      on_ok_weaker _ (known_written (statement provisional) _ _ _ _ c.in_default.not-Failed c.read_month-input.ensures.known c.bytes_read.ensures.bytes) c.print_input.ensures.written;
+  unread = λ e. search rules;
+}

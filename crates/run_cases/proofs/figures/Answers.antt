@@ -1,8 +1,0 @@
--- `run_cases::figures` is safe: it goes through a list once. Assumes nothing.
-use Rattle.run_cases.proofs.figures.Goals as goal
-
-pub loop-i-init : goal.loop-i-init
-loop-i-init c = tt
-
-pub loop-i-preserved : goal.loop-i-preserved
-loop-i-preserved c = tt
