@@ -8,7 +8,7 @@ use borrow.Author.Rules.{rules}
 use Rattle.report_figures.proofs.all_hours.Goals as goal
 
 pub slice_bounds-beginnings-end : goal.slice_bounds-beginnings-end
-slice_bounds-beginnings-end c = omega (arith, so_many (suc most_hours) c.beginning_places-beginnings.ensures, (omega (arith, few_hours _ _ c.requires.accepted)))
+slice_bounds-beginnings-end c = omega (arith, so_many (suc most_hours) c.beginning_places-beginnings.ensures, few_hours _ _ c.requires.accepted)
 
 pub make-made-requires : goal.make-made-requires
 make-made-requires c =
@@ -23,18 +23,16 @@ make-made-requires c =
 pub slice_bounds-pass_made-end : goal.slice_bounds-pass_made-end
 slice_bounds-pass_made-end c =
     part_enough c.make-made.ensures (c.args.s.heading.hours + 1)
-    c.beginning_places-beginnings.result (so_many (suc most_hours) c.beginning_places-beginnings.ensures) ((omega (arith, few_hours _ _ c.requires.accepted))) c.beginnings-2-1.given
+    c.beginning_places-beginnings.result (so_many (suc most_hours) c.beginning_places-beginnings.ensures) (omega (arith, few_hours _ _ c.requires.accepted)) c.beginnings-2-1.given
 
 pub pass_made-requires : goal.pass_made-requires
-pass_made-requires c =
-    let both = (
-      c.requires.accepted,
-      (
-        so_made c.make-made.ensures (c.args.s.heading.hours + 1)
-            c.beginning_places-beginnings.result (so_many (suc most_hours) c.beginning_places-beginnings.ensures) ((omega (arith, few_hours _ _ c.requires.accepted))) c.beginnings-2-1.given,
-        sums_lent c.requires,
-      ),
-    ) in record { accepted = both.0; made_so = both.1; sums_lent = both.2 }
+pass_made-requires c = record {
+  accepted = c.requires.accepted;
+  made_so =
+      so_made c.make-made.ensures (c.args.s.heading.hours + 1)
+      c.beginning_places-beginnings.result (so_many (suc most_hours) c.beginning_places-beginnings.ensures) (omega (arith, few_hours _ _ c.requires.accepted)) c.beginnings-2-1.given;
+  sums_lent = sums_lent c.requires;
+}
 
 pub shape_of-fixed_wh : goal.shape_of-fixed_wh
 shape_of-fixed_wh c = c.fixed_wh-1.given
@@ -55,4 +53,4 @@ pub returns : goal.returns
 returns c =
     c.pass_made.ensures.under _
     (as_lent_again c.make-made.ensures (c.args.s.heading.hours + 1)
-    c.beginning_places-beginnings.result (so_many (suc most_hours) c.beginning_places-beginnings.ensures) ((omega (arith, few_hours _ _ c.requires.accepted))) c.beginnings-2-1.given)
+    c.beginning_places-beginnings.result (so_many (suc most_hours) c.beginning_places-beginnings.ensures) (omega (arith, few_hours _ _ c.requires.accepted)) c.beginnings-2-1.given)
