@@ -11,7 +11,7 @@
  * pointer, allocates, or writes anything but its lent outputs, and calls with other outputs may run at once.
  *
  * Energies are in Wh, load shares in kWh a year, prices in øre per MWh, amounts in millionths of an øre.
- * Link with libsettle_c.a, which `rt staticlib settle_c` writes to target/staticlib.
+ * Link with the static library of the crate settle_c_c, which `rt lib` in crates/settle_c_c writes as out/libsettle_c_c.a.
  */
 #ifndef SAYARIMU_H
 #define SAYARIMU_H

@@ -1,5 +1,5 @@
-// The services of settlement as functions that C calls (include/sayarimu.h). Each takes what its service takes, promises what it promises, and answers 0
-// for accepted, else number + 256 x place (01 "Refusal numbers": "A refusal returns its number and a place, and the call has written nothing.").
+// The services of settlement as C calls them (include/sayarimu.h); settle_c_c exports each under its name. Each takes what its service takes, promises what it
+// promises, and answers 0 for accepted, else number + 256 x place (01 "Refusal numbers": "A refusal returns its number and a place, and the call has written nothing.").
 #![tactic(auto)]
 
 ghost use Rattle.plan_checks.specs.Handed.{handed};
@@ -10,8 +10,7 @@ use answer_code::code;
 use reconcile_service::Reconciled;
 
 // RESIDUAL: the residual of each hour into `out`.
-#[unsafe(no_mangle)]
-pub extern "C" fn settle_residual(
+pub fn settle_residual(
     statuses: &[u8],
     nets: &[i64],
     productions: &[u64],
@@ -27,8 +26,7 @@ pub extern "C" fn settle_residual(
 }
 
 // CURVE: the curve number of each hour into `out`.
-#[unsafe(no_mangle)]
-pub extern "C" fn settle_curve(residuals: &[u32], w: u64, out: &mut [u32]) -> u64
+pub fn settle_curve(residuals: &[u32], w: u64, out: &mut [u32]) -> u64
     ensures { CurvePromised residuals.now w out.old result out.new }
 {
     let answered = curve_numbers::curve(residuals, w, out);
@@ -36,8 +34,7 @@ pub extern "C" fn settle_curve(residuals: &[u32], w: u64, out: &mut [u32]) -> u6
 }
 
 // DISTRIBUTION: the figures of every hour into `out`, hour by hour and within an hour party by party.
-#[unsafe(no_mangle)]
-pub extern "C" fn settle_distribution(shares: &[u64], residuals: &[u32], out: &mut [i64]) -> u64
+pub fn settle_distribution(shares: &[u64], residuals: &[u32], out: &mut [i64]) -> u64
     ensures { DistributionPromised shares.now residuals.now out.old result out.new }
 {
     let answered = distribute_service::distribution(shares, residuals, out);
@@ -45,8 +42,7 @@ pub extern "C" fn settle_distribution(shares: &[u64], residuals: &[u32], out: &m
 }
 
 // PERIODISATION: a reading's growth in each hour into `out`.
-#[unsafe(no_mangle)]
-pub extern "C" fn settle_periodisation(e: u64, weights: &[u32], out: &mut [u32]) -> u64
+pub fn settle_periodisation(e: u64, weights: &[u32], out: &mut [u32]) -> u64
     ensures { PeriodisationPromised e weights.now out.old result out.new }
 {
     let answered = periodise_service::periodisation(e, weights, out);
@@ -54,8 +50,7 @@ pub extern "C" fn settle_periodisation(e: u64, weights: &[u32], out: &mut [u32])
 }
 
 // RECONCILIATION OF ONE HOUR: the loss into `loss_wh`, the differences and the amounts into their lists.
-#[unsafe(no_mangle)]
-pub extern "C" fn settle_reconciliation(
+pub fn settle_reconciliation(
     residual_wh: u32,
     distributed_wh: &[i64],
     periodised_wh: &[u32],
@@ -91,8 +86,7 @@ pub extern "C" fn settle_reconciliation(
 }
 
 // AMOUNTS: each difference times the price of its hour into `amounts_millionths`.
-#[unsafe(no_mangle)]
-pub extern "C" fn settle_amounts(
+pub fn settle_amounts(
     differences_wh: &[i64],
     parties: usize,
     prices_ore: &[i64],
@@ -111,8 +105,7 @@ pub extern "C" fn settle_amounts(
 }
 
 // INVOICE: the whole øre of each exact amount into `out_ore`, adding up to 0.
-#[unsafe(no_mangle)]
-pub extern "C" fn settle_invoice(amounts_millionths: &[i64], out_ore: &mut [i64]) -> u64
+pub fn settle_invoice(amounts_millionths: &[i64], out_ore: &mut [i64]) -> u64
     ensures { InvoicePromised amounts_millionths.now out_ore.old result out_ore.new }
 {
     let answered = invoice_service::invoice(amounts_millionths, out_ore);
@@ -120,8 +113,7 @@ pub extern "C" fn settle_invoice(amounts_millionths: &[i64], out_ore: &mut [i64]
 }
 
 // PLANNER: of the record of each month a, b, the weight before it and the weight of the whole reading; its party and E are those handed in.
-#[unsafe(no_mangle)]
-pub extern "C" fn settle_plan(
+pub fn settle_plan(
     e_wh: u64,
     a: u16,
     b: u16,
