@@ -1,5 +1,4 @@
 -- `file_step::Walk::step` meets its contract: `Exits` says why, exit by exit. Assumes nothing.
-use Rattle.file_step.specs.declared.Walk as W
 use Rattle.file_step.proofs.Exits as E
 use Rattle.file_step.proofs.Walk.step.Goals.{After-body_length-size, Else-rest-size, After-fault_of_part-a}
 use Rattle.file_step.proofs.Walk.step.Goals as goal
