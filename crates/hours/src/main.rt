@@ -2,8 +2,8 @@
 // each hour and a line for each party, or `refused N at P`. Its setting is final (02, W1): a month with no 06 records is refused.
 //
 // What is proved of it: it is safe and ends, given that each read and write returns; and the three parts that it makes for printing, one after the other, are the final
-// report of the bytes read, and of an input that is too long that of any bytes so long. That the bytes read are those of standard input, and that the parts are handed over in
-// this order and arrive, no contract can say: those of `libc::read` and `libc::write` speak of the count of one call alone. tests/streams tries it.
+// report of the bytes read, and of an input that is too long that of any bytes so long; and from a reader to a writer whose bytes are known, the
+// report of what is read is what is written (`run`). Which bytes standard input gives, and that those for standard output arrive, no contract can say: tests/streams tries it.
 #![tactic(auto)]
 
 ghost use Rattle.std.specs.Prelude.{length, ◌≡◌, ◌++◌, OnOk, IfErr, IfSome, IsErrOf};

@@ -2,8 +2,8 @@
 // final as its setting", so a month with no 06 records is refused.
 //
 // What is proved of it: it is safe and ends, given that each read and write returns; and the text that it makes for printing is the final
-// statement of the bytes read, and of an input that is too long that of any bytes so long. That the bytes read are those of standard input, and that the text arrives, no
-// contract can say: those of `libc::read` and `libc::write` speak of the count of one call alone. tests/streams tries it.
+// statement of the bytes read, and of an input that is too long that of any bytes so long; and from a reader to a writer whose bytes are known, that statement of what
+// is read is what is written (`run`). Which bytes standard input gives, and that those for standard output arrive, no contract can say: tests/streams tries it.
 #![tactic(auto)]
 
 ghost use Rattle.std.specs.Prelude.{length, take, ◌≤◌, OnOk, IfErr, IfSome, IsErrOf, ◌≡◌};
