@@ -11,7 +11,7 @@ use borrow.Author.Rules.{rules}
 use Rattle.hours.proofs.input_text.Goals as goal
 
 pub returns-in-Whole : goal.returns-in-Whole
-returns-in-Whole c = let both = whole_printed final _ c.in-Whole.is c.file_text.ensures in record { within = both.0; text = both.1 }
+returns-in-Whole c = let both = whole_printed final _ c.in-Whole.is (c.file_text.ensures.within, c.file_text.ensures.text) in record { within = both.0; text = both.1 }
 
 pub returns-in-TooLong : goal.returns-in-TooLong
 returns-in-TooLong c = let prints = alone_printed c.alone.ensures (line_stands c.refusal_line.ensures (search rules)) in record { within = prints.0; text = too_long_text (T.hours_report final) _ (too_long_line final) c.requires.fully_read c.in-TooLong.is prints.1 }
