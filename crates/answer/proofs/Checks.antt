@@ -4,10 +4,9 @@ use mathlib.Core.List.{List, [], ◌∷◌, ◌++◌}
 use mathlib.Core.Path.{◌≡◌, refl, sym, ◌∙◌, ap}
 use Prim.Native.Nat.{ℕ}
 use native.Mathlib.Omega.{arith}
+use Rattle.std.specs.Prelude.{Result, Ok, Err}
 use Rattle.answer.specs.Said.{said}
-use Rattle.answer.specs.declared.Answer.{Answer}
-use Rattle.answer.specs.declared.Answer.TheVariants.{Done, Refused}
-use Rattle.answer.specs.declared.Refusal as D
+use Rattle.answer.specs.declared.Refused.{Refused}
 use Rattle.rules.specs.Refusals.{Refusal, Verdict, accepted, refused, unless, and_then, first, afterwards}
 use Rattle.rules.proofs.Refusals.{first_append}
 
@@ -35,25 +34,25 @@ unfolding first and_then unless
 test_passes r place later e h = rw e h
 
 -- by a pass over the lists, which gave the answer a
-module _ {a : Answer} {v : Verdict} (is : said a ≡ v) where
-  pub refused_stops : {r : D.Refusal} {place : ℕ} → a ≡ Refused r place → (later : Verdict) → said a ≡ and_then v later
+module _ {A : Type 0} {a : Result A Refused} {v : Verdict} (is : said a ≡ v) where
+  pub refused_stops : {r : Refused} → a ≡ Err r → (later : Verdict) → said a ≡ and_then v later
   unfolding and_then
   refused_stops e later = ap said e ∙ sym (ap (λ (x : Verdict). and_then x later) (sym is ∙ ap said e))
 
-  pub done_passes : a ≡ Done → (later : Verdict) → and_then v later ≡ later
+  pub done_passes : {given : A} → a ≡ Ok given → (later : Verdict) → and_then v later ≡ later
   unfolding and_then
   done_passes e later = ap (λ (x : Verdict). and_then x later) (sym is ∙ ap said e)
 
 -- the same of a list of checks
 pub pass_refuses :
-    {x : Answer} {check : Verdict} {r : D.Refusal} {place : ℕ} (later : List Verdict)
+    {A : Type 0} {x : Result A Refused} {check : Verdict} {r : Refused} (later : List Verdict)
     → said x ≡ check
-    → x ≡ Refused r place
+    → x ≡ Err r
     → said x ≡ first (check ∷ later)
 unfolding first
 pass_refuses later e told = refused_stops e told (first later)
 
-pub pass_accepts : {x : Answer} {check v : Verdict} (later : List Verdict) → said x ≡ check → x ≡ Done → v ≡ first later → v ≡ first (check ∷ later)
+pub pass_accepts : {A : Type 0} {x : Result A Refused} {given : A} {check v : Verdict} (later : List Verdict) → said x ≡ check → x ≡ Ok given → v ≡ first later → v ≡ first (check ∷ later)
 unfolding first
 pass_accepts later e told h = h ∙ sym (done_passes e told (first later))
 
@@ -64,7 +63,7 @@ last_check accepted = refl
 last_check (refused r place) = refl
 
 -- what a pass that accepted has said
-pub accepted_by : {x : Answer} {check : Verdict} → said x ≡ check → x ≡ Done → check ≡ accepted
+pub accepted_by : {A : Type 0} {x : Result A Refused} {given : A} {check : Verdict} → said x ≡ check → x ≡ Ok given → check ≡ accepted
 accepted_by e told = sym e ∙ ap said told
 
 -- checks taken together, and those after them
@@ -77,7 +76,7 @@ unfolding first
 past check l m e = ap (and_then check) e
 
 -- a refused call has written nothing
-pub unwritten : {A : Type 0} {x : Answer} {r : D.Refusal} {place : ℕ} (new old : List A) → x ≡ Refused r place → old ≡ afterwards (said x) new old
+pub unwritten : {A B : Type 0} {x : Result B Refused} {r : Refused} (new old : List A) → x ≡ Err r → old ≡ afterwards (said x) new old
 unfolding afterwards
 unwritten new old told = rw told
 

@@ -1,12 +1,12 @@
 -- No second answer says the same: `said` can be read back.
 use mathlib.Core.Path.{◌≡◌, refl, sym, ◌∙◌, ap}
+use Rattle.std.specs.Prelude.{Result, Ok, Err, ⊤}
 use Rattle.answer.specs.Said.{named, said}
 use Rattle.answer.specs.declared.Refusal.{Refusal}
 use Rattle.answer.specs.declared.Refusal.TheVariants.{FileFault, UnknownKind, OutOfOrder, OutOfRange, GlnFault, WOutOfRange}
 use Rattle.answer.specs.declared.Refusal.TheVariants.{MissingHour, ResidualNegative, ResidualTooLarge, CurveTooLarge, SpanFault}
 use Rattle.answer.specs.declared.Refusal.TheVariants.{EnergyTooLarge, NothingToFollow, PeriodisedTooLarge, WrongCount, WrongLength, NotRefixed, WholeExceeded, DifferenceTooLarge}
-use Rattle.answer.specs.declared.Answer.{Answer}
-use Rattle.answer.specs.declared.Answer.TheVariants.{Done, Refused}
+use Rattle.answer.specs.declared.Refused.{Refused}
 use Rattle.rules.specs.Refusals as R
 
 abbrev read_back : R.Refusal → Refusal
@@ -51,17 +51,17 @@ read_back_lem NotRefixed = refl
 read_back_lem WholeExceeded = refl
 read_back_lem DifferenceTooLarge = refl
 
-abbrev answer_back : R.Verdict → Answer
-answer_back R.accepted = Done
-answer_back (R.refused r place) = Refused (read_back r) place
+abbrev answer_back : R.Verdict → Result ⊤ Refused
+answer_back R.accepted = Ok tt
+answer_back (R.refused r place) = Err (read_back r, place)
 
-answer_back_lem : (a : Answer) → answer_back (said a) ≡ a
-answer_back_lem Done = refl
-answer_back_lem (Refused r place) = ap (λ (x : Refusal). Refused x place) (read_back_lem r)
+answer_back_lem : (a : Result ⊤ Refused) → answer_back (said a) ≡ a
+answer_back_lem (Ok _) = refl
+answer_back_lem (Err r) = ap (λ (x : Refusal). Err (x, r.1)) (read_back_lem r.0)
 
 -- two names of one refusal are one, and so are two answers that say the same
 pub named_once : (r s : Refusal) → named r ≡ named s → r ≡ s
 named_once r s e = sym (read_back_lem r) ∙ ap read_back e ∙ read_back_lem s
 
-pub said_once : (a b : Answer) → said a ≡ said b → a ≡ b
+pub said_once : (a b : Result ⊤ Refused) → said a ≡ said b → a ≡ b
 said_once a b e = sym (answer_back_lem a) ∙ ap answer_back e ∙ answer_back_lem b

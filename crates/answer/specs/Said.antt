@@ -1,10 +1,10 @@
 -- What an answer of the code says in the words of the rules: for each case the paper's refusal and place.
+use Rattle.std.specs.Prelude.{Result, Ok, Err}
 use Rattle.answer.specs.declared.Refusal.{Refusal}
 use Rattle.answer.specs.declared.Refusal.TheVariants.{FileFault, UnknownKind, OutOfOrder, OutOfRange, GlnFault, WOutOfRange}
 use Rattle.answer.specs.declared.Refusal.TheVariants.{MissingHour, ResidualNegative, ResidualTooLarge, CurveTooLarge, SpanFault}
 use Rattle.answer.specs.declared.Refusal.TheVariants.{EnergyTooLarge, NothingToFollow, PeriodisedTooLarge, WrongCount, WrongLength, NotRefixed, WholeExceeded, DifferenceTooLarge}
-use Rattle.answer.specs.declared.Answer.{Answer}
-use Rattle.answer.specs.declared.Answer.TheVariants.{Done, Refused}
+use Rattle.answer.specs.declared.Refused.{Refused}
 use Rattle.rules.specs.Refusals as R
 
 abbrev pub named : Refusal → R.Refusal
@@ -28,6 +28,15 @@ named NotRefixed = R.not_refixed
 named WholeExceeded = R.whole_exceeded
 named DifferenceTooLarge = R.difference_too_large
 
-abbrev pub said : Answer → R.Verdict
-said Done = R.accepted
-said (Refused r place) = R.refused (named r) place
+abbrev pub verdict_of : Refused → R.Verdict
+verdict_of r = R.refused (named r.0) r.1
+
+-- whether a call refuses, whatever it gives
+abbrev pub said : {A : Type 0} → Result A Refused → R.Verdict
+said (Ok _) = R.accepted
+said (Err r) = verdict_of r
+
+-- and what it gives, in the rules' words
+abbrev pub told : {A B : Type 0} → (A → B) → Result A Refused → R.Answer B
+told words (Ok given) = R.given (words given)
+told words (Err r) = R.refusal (named r.0) r.1

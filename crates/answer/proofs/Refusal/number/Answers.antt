@@ -1,9 +1,9 @@
--- `answer::number` meets its contract: in each arm the refusal is the one that the arm names. Assumes nothing.
+-- `answer::Refusal::number` meets its contract: in each arm the refusal is the one that the arm names. Assumes nothing.
 use mathlib.Core.Path.{◌≡◌, sym, ap}
 use Rattle.answer.specs.Said.{named}
 use Rattle.answer.specs.declared.Refusal.{Refusal}
 use Rattle.rules.specs.Refusals.{number_of}
-use Rattle.answer.proofs.number.Goals as goal
+use Rattle.answer.proofs.Refusal.number.Goals as goal
 
 numbered : {r known : Refusal} → r ≡ known → number_of (named known) ≡ number_of (named r)
 numbered is = ap (λ (x : Refusal). number_of (named x)) (sym is)
