@@ -1,7 +1,7 @@
 -- What a service called from C answers: "A refusal returns its number and a place" (01 "Refusal numbers") as one number, and 0 for accepted.
-use Rattle.std.specs.Prelude.{cond, ◌≡◌, ℕ, ◌+◌, ◌*◌, leb}
+use Rattle.std.specs.Prelude.{cond, ◌≡◌, ℕ, ◌+◌, ◌*◌, leb, Result, ⊤}
 use Rattle.answer.specs.Said.{said}
-use Rattle.answer.specs.declared.Answer.{Answer}
+use Rattle.answer.specs.declared.Refused.{Refused}
 use Rattle.rules.specs.Refusals.{Verdict, accepted, refused, number_of}
 
 -- 2 ^ 56 - 1: up to this place number + 256 x place is within 64 bits
@@ -22,5 +22,5 @@ coded accepted = 0
 coded (refused r place) = number_at (number_of r) place
 
 -- THE PROMISE of `code`: its `ensures` cites it, and so does what is proved of every service (`every_service`)
-abbrev pub Promised : Answer → ℕ → Type 0
+abbrev pub Promised : Result ⊤ Refused → ℕ → Type 0
 Promised a n = n ≡ coded (said a)

@@ -5,7 +5,7 @@
 ghost use Rattle.std.specs.Prelude.{◌≡◌};
 ghost use Rattle.answer_code.specs.Coded.{number_at, Promised};
 
-use answer::Answer;
+use answer::Refused;
 
 // Up to this place, 2 ^ 56 - 1, number + 256 x place is within 64 bits. Every service refuses far below it.
 const GREATEST_PLACE: usize = 72_057_594_037_927_935;
@@ -24,11 +24,11 @@ fn number_at(number: u8, place: usize) -> u64
 }
 
 // An answer as one number: 0 for done.
-pub fn code(a: Answer) -> u64
+pub fn code(a: Result<(), Refused>) -> u64
     ensures { Promised a result }
 {
     match a {
-        Answer::Done => 0,
-        Answer::Refused(refusal, place) => number_at(answer::number(refusal), place),
+        Ok(()) => 0,
+        Err(Refused(refusal, place)) => number_at(refusal.number(), place),
     }
 }

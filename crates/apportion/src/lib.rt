@@ -15,14 +15,14 @@ ghost use Rattle.rules.specs.Words.{at};
 fn below(a: u64, b: u64) -> u64
     ensures { result ≡ below_number a b }
 {
-    if a < b { 1 } else { 0 }
+    u64::from(a < b)
 }
 
 // 1 where they are the same, else 0.
 fn same(a: u64, b: u64) -> u64
     ensures { result ≡ same_number a b }
 {
-    if a == b { 1 } else { 0 }
+    u64::from(a == b)
 }
 
 // "the largest remainders ..; of equal remainders the lower party number comes first": 1 where the other comes before, else 0.
@@ -35,7 +35,7 @@ fn comes_before(other: u64, own: u64, lower: bool) -> u64
     if other < own {
         return 0;
     }
-    if lower { 1 } else { 0 }
+    u64::from(lower)
 }
 
 // The bits of both: at least as much as either.
@@ -51,10 +51,8 @@ fn bound(rest: &[u64; 64], n: usize) -> u64
     ensures { how_many_above n (at rest.now) result ≡ 0 }
 {
     let mut bits = 0;
-    let mut i = 0;
-    while i < n {
+    for i in 0..n {
         bits = bits_of_both(bits, rest[i]);
-        i += 1;
     }
     bits
 }
@@ -65,9 +63,7 @@ fn above(rest: &[u64; 64], n: usize, v: u64) -> u64
     ensures { result ≡ how_many_above n (at rest.now) v }
 {
     let mut over = 0;
-    let mut i = n;
-    while 0 < i {
-        i -= 1;
+    for i in (0..n).rev() {
         over += below(v, rest[i]);
     }
     over
@@ -102,13 +98,11 @@ fn cut(rest: &[u64; 64], n: usize, v: u64, spare: u64) -> usize
     ensures { Cut n (at rest.now) v spare result }
 {
     let mut given = 0;
-    let mut i = 0;
-    while i < n {
+    for i in 0..n {
         if given == spare {
             return i;
         }
         given += same(rest[i], v);
-        i += 1;
     }
     n
 }
@@ -123,10 +117,8 @@ pub fn one_each(rest: &[u64; 64], n: usize, left: u64) -> [u64; 64]
     let v = threshold(rest, n, left);
     let end = cut(rest, n, v, left - above(rest, n, v));
     let mut extra = [0u64; 64];
-    let mut i = 0;
-    while i < n {
+    for i in 0..n {
         extra[i] = comes_before(rest[i], v, i < end);
-        i += 1;
     }
     extra
 }

@@ -10,7 +10,7 @@ ghost use Rattle.rules.specs.Flows.{curve_number};
 ghost use Rattle.rules.specs.Refusals.{curve_too_large};
 ghost use Rattle.rules.specs.Services.{each_at, curve_fits, curve_figures};
 
-use answer::{Answer, Refusal};
+use answer::{Refusal, Refused};
 
 // "Curve number at most 1,000,000,000.", as wide as one that is not judged yet.
 const GREATEST_CURVE_NUMBER: u64 = limits::GREATEST_CURVE_NUMBER as u64;
@@ -31,38 +31,36 @@ fn curve_number(wh: u32, w: u64) -> u64
     requires { 0 < w }
     ensures { result ≡ curve_number wh w }
 {
-    rounded_down(wh as u64 * CURVE_SCALE, w)
+    rounded_down(u64::from(wh) * CURVE_SCALE, w)
 }
 
 // 16; 4: H outside 1..745; 6: W outside 1..4,000,000,000.
-fn curve_shape(hours: usize, w: u64, lent: usize) -> Answer
+fn curve_shape(hours: usize, w: u64, lent: usize) -> Result<(), Refused>
     ensures { said result ≡ curve_shape hours w lent }
 {
     if lent != hours {
-        return Answer::Refused(Refusal::WrongLength, 0);
+        return Err(Refused(Refusal::WrongLength, 0));
     }
     if !((1 <= hours) & (hours <= limits::MOST_HOURS)) {
-        return Answer::Refused(Refusal::OutOfRange, 0);
+        return Err(Refused(Refusal::OutOfRange, 0));
     }
     if !((1 <= w) & (w <= limits::GREATEST_W_KWH)) {
-        return Answer::Refused(Refusal::WOutOfRange, 0);
+        return Err(Refused(Refusal::WOutOfRange, 0));
     }
-    Answer::Done
+    Ok(())
 }
 
 // "Curve number at most 1,000,000,000.": the first hour whose curve number is larger.
-fn curve_numbers_fit(residuals: &[u32], w: u64) -> Answer
+fn curve_numbers_fit(residuals: &[u32], w: u64) -> Result<(), Refused>
     requires { 0 < w }
     ensures { said result ≡ each_at residuals.now (curve_fits w) curve_too_large }
 {
-    let mut t = 0;
-    while t < residuals.len() {
-        if GREATEST_CURVE_NUMBER < curve_number(residuals[t], w) {
-            return Answer::Refused(Refusal::CurveTooLarge, t);
+    for (t, residual_wh) in residuals.iter().enumerate() {
+        if GREATEST_CURVE_NUMBER < curve_number(*residual_wh, w) {
+            return Err(Refused(Refusal::CurveTooLarge, t));
         }
-        t += 1;
     }
-    Answer::Done
+    Ok(())
 }
 
 // The curve number of every hour, of hours whose curve numbers all fit.
@@ -71,33 +69,22 @@ fn write_curve(residuals: &[u32], w: u64, out: &mut [u32])
     requires out_len { length out.old ≡ length residuals.now }
     ensures { out.new ≡ curve_figures residuals.now w }
 {
-    let mut t = 0;
-    while t < out.len() {
+    for t in 0..out.len() {
         out[t] = curve_number(residuals[t], w) as u32;
-        t += 1;
     }
 }
 
 // CURVE: the curve number of each hour into the lent series, or the first refusal and nothing written.
-pub fn curve(residuals: &[u32], w: u64, out: &mut [u32]) -> Answer
+pub fn curve(residuals: &[u32], w: u64, out: &mut [u32]) -> Result<(), Refused>
     ensures { Promised residuals.now w out.old result out.new }
 {
-    let shape = curve_shape(residuals.len(), w, out.len());
-    let Answer::Done = shape else {
-        return shape;
-    };
-    let large = answer::each_at_most_u32(
+    curve_shape(residuals.len(), w, out.len())?;
+    answer::each_at_most(
         residuals,
-        limits::GREATEST_RESIDUAL_WH,
+        u64::from(limits::GREATEST_RESIDUAL_WH),
         Refusal::ResidualTooLarge,
-    );
-    let Answer::Done = large else {
-        return large;
-    };
-    let fit = curve_numbers_fit(residuals, w);
-    let Answer::Done = fit else {
-        return fit;
-    };
+    )?;
+    curve_numbers_fit(residuals, w)?;
     write_curve(residuals, w, out);
-    Answer::Done
+    Ok(())
 }

@@ -13,7 +13,7 @@ ghost use Rattle.distribute.specs.Written.{PutOn};
 ghost use Rattle.rules.specs.Limits.{most_parties};
 ghost use Rattle.rules.specs.Words.{at, sum};
 
-use answer::{Answer, Refusal};
+use answer::{Refusal, Refused};
 
 // The carries of all parties: what is handed on from hour to hour.
 #[derive(Clone, Copy)]
@@ -47,10 +47,8 @@ fn grown_by(remainder: &[u64; 64], share: &[u64; 64], n: usize, residual: u64) -
     ensures { Filled 0 (grown_by remainder.now share.now residual) n result }
 {
     let mut grown = [0u64; 64];
-    let mut i = 0;
-    while i < n {
+    for i in 0..n {
         grown[i] = remainder[i] + share[i] * residual;
-        i += 1;
     }
     grown
 }
@@ -62,12 +60,10 @@ fn divide(grown: &[u64; 64], n: usize, w: u64) -> Divided
 {
     let mut quotient = [0u64; 64];
     let mut rest = [0u64; 64];
-    let mut i = 0;
-    while i < n {
+    for i in 0..n {
         let sum = grown[i];
         quotient[i] = sum / w;
         rest[i] = sum % w;
-        i += 1;
     }
     Divided { quotient, rest }
 }
@@ -78,10 +74,8 @@ pub fn total(values: &[u64; 64], n: usize) -> u64
     ensures { result ≡ sum n (at values.now) }
 {
     let mut all = 0;
-    let mut i = 0;
-    while i < n {
+    for i in 0..n {
         all += values[i];
-        i += 1;
     }
     all
 }
@@ -100,10 +94,8 @@ fn figures_of(quotient: &[u64; 64], after: &[u64; 64], before: &[u64; 64], n: us
     ensures { Filled (pos 0) (figure_by quotient.now after.now before.now) n result }
 {
     let mut figures = [0i64; 64];
-    let mut i = 0;
-    while i < n {
+    for i in 0..n {
         figures[i] = figure_of(quotient[i], after[i], before[i]);
-        i += 1;
     }
     figures
 }
@@ -114,11 +106,7 @@ fn padded(shares: &[u64]) -> [u64; 64]
     ensures { Filled 0 (at shares.now) (length shares.now) result }
 {
     let mut share = [0u64; 64];
-    let mut i = 0;
-    while i < shares.len() {
-        share[i] = shares[i];
-        i += 1;
-    }
+    share[0..shares.len()].copy_from_slice(shares);
     share
 }
 
@@ -153,7 +141,7 @@ impl Carries {
         let share = self.share;
         let remainder = self.remainder;
         let before = self.extra;
-        let residual = residual_wh as u64;
+        let residual = u64::from(residual_wh);
         let grown = grown_by(&remainder, &share, n, residual);
         let parts = divide(&grown, n, w);
         let quotient = parts.quotient;
@@ -179,23 +167,18 @@ pub fn put_figures(from: &[i64; 64], n: usize, out: &mut [i64], place: usize)
     requires { (n ≤ most_parties) × (place + n ≤ length out.old) }
     ensures { PutOn (pos 0) «from».now n place out.old out.new }
 {
-    let mut i = 0;
-    while i < n {
-        let here = place + i;
-        out[here] = from[i];
-        i += 1;
-    }
+    out[place..place + n].copy_from_slice(&from[0..n]);
 }
 
 // 6: W, the sum of at most 64 shares within their limit.
-pub fn w_in_range(shares: &[u64]) -> Answer
+pub fn w_in_range(shares: &[u64]) -> Result<(), Refused>
     requires { FewShares shares.now }
     ensures { said result ≡ w_verdict shares.now }
 {
     let share = padded(shares);
     let w = total(&share, shares.len());
     if !((1 <= w) & (w <= limits::GREATEST_W_KWH)) {
-        return Answer::Refused(Refusal::WOutOfRange, 0);
+        return Err(Refused(Refusal::WOutOfRange, 0));
     }
-    Answer::Done
+    Ok(())
 }

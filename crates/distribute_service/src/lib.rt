@@ -8,7 +8,7 @@ ghost use Rattle.distribute_service.specs.Promised.{Promised};
 ghost use Rattle.distribute_service.specs.Service.{shape_verdict, Distributable};
 ghost use Rattle.rules.specs.Services.{distribution_figures};
 
-use answer::{Answer, Refusal, each_at_most_u32, each_at_most_u64};
+use answer::{Refusal, Refused, each_at_most};
 use distribute::{Carries, w_in_range};
 
 // Whether a lent output has a place for each party in each hour; by division, since the product could pass 64 bits.
@@ -25,19 +25,19 @@ fn lent_right(lent: usize, parties: usize, hours: usize) -> bool
 }
 
 // 16, then 4 for H and P.
-fn shape(lent: usize, parties: usize, hours: usize) -> Answer
+fn shape(lent: usize, parties: usize, hours: usize) -> Result<(), Refused>
     ensures { said result ≡ shape_verdict lent parties hours }
 {
     if !lent_right(lent, parties, hours) {
-        return Answer::Refused(Refusal::WrongLength, 0);
+        return Err(Refused(Refusal::WrongLength, 0));
     }
     if !((1 <= hours)
         & (hours <= limits::MOST_HOURS)
         & ((1 <= parties) & (parties <= limits::MOST_PARTIES)))
     {
-        return Answer::Refused(Refusal::OutOfRange, 0);
+        return Err(Refused(Refusal::OutOfRange, 0));
     }
-    Answer::Done
+    Ok(())
 }
 
 // All hours in turn, each from the carries of the hour before.
@@ -48,41 +48,27 @@ fn distribute(shares: &[u64], residuals: &[u32], out: &mut [i64])
     let n = shares.len();
     let mut carries = Carries::start(shares);
     let mut place = 0;
-    let mut t = 0;
-    while t < residuals.len() {
+    for t in 0..residuals.len() {
         carries = carries.step(residuals[t]);
         let figures = carries.figures;
         distribute::put_figures(&figures, n, out, place);
         place += n;
-        t += 1;
     }
 }
 
 // DISTRIBUTION. The figures of every hour, hour by hour and within an hour party by party. Refuses 16, 4 (H, P, a share at its party), 6 and 9, in that
 // order.
-pub fn distribution(shares: &[u64], residuals: &[u32], out: &mut [i64]) -> Answer
+pub fn distribution(shares: &[u64], residuals: &[u32], out: &mut [i64]) -> Result<(), Refused>
     ensures { Promised shares.now residuals.now out.old result out.new }
 {
-    let shaped = shape(out.len(), shares.len(), residuals.len());
-    let Answer::Done = shaped else {
-        return shaped;
-    };
-    let fitting = each_at_most_u64(shares, limits::GREATEST_SHARE_KWH, Refusal::OutOfRange);
-    let Answer::Done = fitting else {
-        return fitting;
-    };
-    let weighed = w_in_range(shares);
-    let Answer::Done = weighed else {
-        return weighed;
-    };
-    let limited = each_at_most_u32(
+    shape(out.len(), shares.len(), residuals.len())?;
+    each_at_most(shares, limits::GREATEST_SHARE_KWH, Refusal::OutOfRange)?;
+    w_in_range(shares)?;
+    each_at_most(
         residuals,
-        limits::GREATEST_RESIDUAL_WH,
+        u64::from(limits::GREATEST_RESIDUAL_WH),
         Refusal::ResidualTooLarge,
-    );
-    let Answer::Done = limited else {
-        return limited;
-    };
+    )?;
     distribute(shares, residuals, out);
-    Answer::Done
+    Ok(())
 }

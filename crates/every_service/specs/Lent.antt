@@ -1,12 +1,11 @@
 -- What is lent to a call that is lent more than one thing, by its names; and the call's own promise over that, before the call and once it has answered.
-use Rattle.std.specs.Prelude.{List, ℕ, ℤ}
-use Rattle.answer.specs.declared.Answer.{Answer}
+use Rattle.std.specs.Prelude.{List, ℕ, ℤ, Result, ⊤}
+use Rattle.answer.specs.declared.Refused.{Refused}
 use Rattle.month_run.specs.Run as Run
 use Rattle.plan_service.specs.Promised as Plan
 use Rattle.reconcile_service.specs.Told as Hour
-use Rattle.reconcile_service.specs.declared.Reconciled.{Reconciled}
 use Rattle.report_text.specs.Reporting as Report
-use Rattle.report_text.specs.declared.Reported.{Reported}
+use Rattle.report_text.specs.declared.Lines.{Lines}
 use Rattle.setting.specs.declared.Setting.{Setting}
 use Rattle.rules.specs.Plan.{LongReading}
 use Rattle.settle_c.specs.Promised as C
@@ -16,7 +15,7 @@ pub record HourLists : Type 0 where
   pub differences : List ℤ
   pub amounts : List ℤ
 
-abbrev pub HourPromised : ℕ → List ℤ → List ℕ → ℕ → ℤ → HourLists → Reconciled → HourLists → Type 0
+abbrev pub HourPromised : ℕ → List ℤ → List ℕ → ℕ → ℤ → HourLists → Result ℤ Refused → HourLists → Type 0
 HourPromised residual distributed periodised carrier price lent r held =
     Hour.Promised residual distributed periodised carrier price lent.differences lent.amounts r held.differences held.amounts
 
@@ -38,7 +37,7 @@ pub record RunOutputs : Type 0 where
   pub differences : List ℤ
   pub losses : List ℤ
 
-abbrev pub RunPromised : Setting → List ℕ → ℕ → ℕ → RunOutputs → Answer → RunOutputs → Type 0
+abbrev pub RunPromised : Setting → List ℕ → ℕ → ℕ → RunOutputs → Result ⊤ Refused → RunOutputs → Type 0
 RunPromised setting file start hours lent r held =
     Run.Promised setting file start hours r lent.distributed lent.periodised lent.differences lent.losses
     held.distributed held.periodised held.differences held.losses
@@ -49,7 +48,7 @@ pub record ReportBuffers : Type 0 where
   pub rest : List ℕ
   pub parties : List ℕ
 
-abbrev pub ReportPromised : Setting → List ℕ → ReportBuffers → Reported → ReportBuffers → Type 0
+abbrev pub ReportPromised : Setting → List ℕ → ReportBuffers → Result Lines Refused → ReportBuffers → Type 0
 ReportPromised setting file lent r held =
     Report.Promised setting file lent.first lent.rest lent.parties r held.first held.rest held.parties
 
@@ -60,7 +59,7 @@ pub record PlanForC : Type 0 where
   pub before : List ℕ
   pub whole : List ℕ
 
-abbrev pub PlanLentPromised : LongReading → PlanForC → Answer → PlanForC → Type 0
+abbrev pub PlanLentPromised : LongReading → PlanForC → Result ⊤ Refused → PlanForC → Type 0
 PlanLentPromised r lent a held =
     Plan.Promised r lent.from lent.to lent.before lent.whole a held.from held.to held.before held.whole
 

@@ -1,10 +1,10 @@
 -- "that no second result fits is itself proved" (01, "What a proof here has to say"): for every public service, in one place. A result is the answer together
 -- with what each lent buffer holds after the call; that no second one fits means that two results which both meet the promise are equal. The promise is the
 -- one that the function's `ensures` cites, by its name.
-use Rattle.std.specs.Prelude.{Bool, List, ◌≡◌, ℕ, ℤ}
+use Rattle.std.specs.Prelude.{Bool, List, ◌≡◌, ℕ, ℤ, Result, ⊤}
 use Rattle.amounts_service.specs.Promised as Amounts
 use Rattle.answer.specs.Promised as Answer
-use Rattle.answer.specs.declared.Answer.{Answer}
+use Rattle.answer.specs.declared.Refused.{Refused}
 use Rattle.answer.specs.declared.Refusal.{Refusal}
 use Rattle.answer_code.specs.Coded as Code
 use Rattle.curve_numbers.specs.Promised as Curve
@@ -100,7 +100,7 @@ pub record WholeFiles : Type 0 where
 -- AND THE ANSWERS THEMSELVES, 17 by the setting among them
 pub record Answers : Type 0 where
   pub number : (r : Refusal) → OneFits (Answer.NumberPromised r)
-  pub code : (a : Answer) → OneFits (Code.Promised a)
+  pub code : (a : Result ⊤ Refused) → OneFits (Code.Promised a)
   pub each_at_most : (values : List ℕ) (most : ℕ) (otherwise : Refusal) → OneFits (Answer.EachAtMostPromised values most otherwise)
   pub within : (figure lowest greatest : ℤ) → OneFits (Answer.WithinPromised figure lowest greatest)
   pub each_within :

@@ -1,7 +1,7 @@
 -- "A refused call writes nothing into any buffer it was lent." (00, demand 1), "A refusal returns its number and a place, and the call has written nothing." (01
 -- "Refusal numbers"): for every public service that is lent something, in one place. Whoever calls sees the answer: if it is a refusal, and the call has met its
 -- promise (the one that the function's `ensures` cites, by its name), then what was lent is as it was.
-use Rattle.std.specs.Prelude.{List, ◌≡◌, ℕ, ◌<◌, ℤ}
+use Rattle.std.specs.Prelude.{List, ◌≡◌, ℕ, ◌<◌, ℤ, Result}
 use Rattle.amounts_service.specs.Promised as Amounts
 use Rattle.answer.specs.Said.{said}
 use Rattle.curve_numbers.specs.Promised as Curve
@@ -15,7 +15,7 @@ use Rattle.reconcile_service.specs.Told as Hour
 use Rattle.record.specs.declared.Record.{Record}
 use Rattle.record_service.specs.Plain as Plain
 use Rattle.record_write.specs.Writing as Write
-use Rattle.record_write.specs.declared.Written.{Written}
+use Rattle.answer.specs.declared.Refused as A
 use Rattle.report_text.specs.Reporting as Report
 use Rattle.residual_service.specs.Promised as Residual
 use Rattle.rules.specs.Refusals.{Refusal, Verdict, refused, verdict_told}
@@ -36,7 +36,7 @@ abbrev pub Refuses : {Result : Type 0} → (Result → Verdict) → Result → T
 Refuses verdict r = Refused (verdict r)
 
 -- the record writer's answer
-abbrev pub wrote_verdict : Written → Verdict
+abbrev pub wrote_verdict : Result ℕ A.Refused → Verdict
 wrote_verdict w = verdict_told (Write.wrote w)
 
 -- for C, whose 0 is an acceptance: any other number is a refusal

@@ -8,7 +8,6 @@ ghost use Rattle.std.specs.Prelude.{◌≡◌, ◌+◌, ◌*◌, ◌≤◌, leng
 ghost use Rattle.file_fields.specs.Fields.{FixedAsked, RefixedAsked, PriceAsked, ReadingAsked, PartyAsked, FixedIs, RefixedIs, PriceIs, ReadingIs, ShareIs, GlnIs, BrpGlnIs, BrpNumberIs};
 
 use file_sections::Sections;
-use gln::Gln;
 use record::{Flows, Reading};
 
 // The file from the k-th record of a section on, whose records have so many bytes.
@@ -93,8 +92,5 @@ pub fn brp_number(file: &[u8], s: Sections, i: usize) -> u64
     requires { PartyAsked file.now s i }
     ensures { BrpNumberIs file.now i result }
 {
-    match gln::check(brp_gln_of(file, s, i)) {
-        Gln::Valid(number) => number,
-        Gln::Invalid => 0,
-    }
+    gln::check(brp_gln_of(file, s, i)).unwrap_or(0)
 }

@@ -6,6 +6,7 @@
 ghost use Rattle.std.specs.Prelude.{◌≡◌, drop};
 ghost use Rattle.file_step.specs.Walk.{Steppable, Stepped};
 
+use answer::Refused;
 use file_step::{Step, Walk};
 
 // The file, and the place of the record that is next.
@@ -16,7 +17,7 @@ pub struct Reader<'a> {
 }
 
 // The record at a place of a file, judged where the reading stands: order, P and H of the heading, and its own fields.
-fn step_at(file: &[u8], at: usize, w: Walk) -> Step
+fn step_at(file: &[u8], at: usize, w: Walk) -> Result<Step, Refused>
     requires { Steppable w (drop at file.now) }
     ensures { Stepped w (drop at file.now) result }
 {
@@ -31,7 +32,7 @@ fn new<'a>(file: &'a [u8], at: usize) -> Reader<'a>
 }
 
 // The record at the reader's place.
-fn next<'a>(r: Reader<'a>, w: Walk) -> Step
+fn next<'a>(r: Reader<'a>, w: Walk) -> Result<Step, Refused>
     requires { Steppable w (drop r.at r.file.now) }
     ensures { Stepped w (drop r.entry.at r.entry.file.now) result }
 {
@@ -39,7 +40,7 @@ fn next<'a>(r: Reader<'a>, w: Walk) -> Step
 }
 
 // The same by plain parameters: the loop through a file calls this.
-pub fn next_at(file: &[u8], at: usize, w: Walk) -> Step
+pub fn next_at(file: &[u8], at: usize, w: Walk) -> Result<Step, Refused>
     requires { Steppable w (drop at file.now) }
     ensures { Stepped w (drop at file.now) result }
 {

@@ -1,14 +1,13 @@
 -- Where the sections of a file start that was walked through, and what the reading of a file tells.
-use Rattle.std.specs.Prelude.{List, ◌≡◌, ℕ, ◌+◌, ◌*◌, length}
-use Rattle.answer.specs.Said.{named}
+use Rattle.std.specs.Prelude.{List, ◌≡◌, ℕ, ◌+◌, ◌*◌, length, Result}
+use Rattle.answer.specs.Said as A
+use Rattle.answer.specs.declared.Refused.{Refused}
 use Rattle.record.specs.declared.Heading as CHeading
 use Rattle.setting.specs.Asked.{prices_asked}
 use Rattle.setting.specs.declared.Prices as Called
 use Rattle.file_step.specs.Walk.{kind_of_the_last}
 use Rattle.file_step.specs.declared.Walk.{Walk}
 use Rattle.file_sections.specs.declared.Sections.{Sections}
-use Rattle.file_sections.specs.declared.MonthRead.{MonthRead}
-use Rattle.file_sections.specs.declared.MonthRead.TheVariants as M
 use Rattle.rules.specs.MonthFile.{MonthFile, read_month}
 use Rattle.rules.specs.Record.{body_length}
 use Rattle.rules.specs.Refusals.{Answer, given, refusal}
@@ -49,16 +48,15 @@ sections_of m =
     (length m.readings)
 
 -- what the reading of a file tells, and what the rules give: the month's sections, or the refusal
-abbrev pub told : MonthRead → Answer Sections
-told (M.Accepted s) = given s
-told (M.Refused r place) = refusal (named r) place
+abbrev pub told : Result Sections Refused → Answer Sections
+told = A.told (λ s. s)
 
 abbrev pub read_answer : Answer MonthFile → Answer Sections
 read_answer (given m) = given (sections_of m)
 read_answer (refusal r place) = refusal r place
 
 -- THE PROMISE of `read`: its `ensures` cites it, and so does what is proved of every service (`every_service`)
-abbrev pub Promised : Called.Prices → List ℕ → MonthRead → Type 0
+abbrev pub Promised : Called.Prices → List ℕ → Result Sections Refused → Type 0
 Promised prices file r = told r ≡ read_answer (read_month (prices_asked prices) file)
 
 -- the file is read with these sections, its prices needed or not

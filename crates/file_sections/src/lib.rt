@@ -7,7 +7,7 @@ ghost use Rattle.file_step.specs.Walk.{Few};
 ghost use Rattle.file_sections.specs.Walk.{sections_in, Promised};
 ghost use Rattle.rules.specs.Record.{body_length};
 
-use answer::Refusal;
+use answer::{Refusal, Refused};
 use file_step::{Step, Walk};
 use record::Heading;
 use setting::Prices;
@@ -25,12 +25,6 @@ pub struct Sections {
     pub refixed_at: usize,
     pub prices_at: usize,
     pub readings_at: usize,
-}
-
-#[derive(Clone, Copy)]
-pub enum MonthRead {
-    Accepted(Sections),
-    Refused(Refusal, usize),
 }
 
 // How many bytes a record of a kind has with its kind byte.
@@ -78,34 +72,30 @@ fn laid_out(w: Walk) -> Sections
 
 // A WHOLE FILE, record by record, with its prices needed or not. Refuses 1 where it is empty or too long, before all else; then each record by 2, 1, 3, 4, 5, 11, 12, 15; then 1 for a
 // missing end and for bytes after it, at the number of complete records.
-pub fn read(file: &[u8], prices: Prices) -> MonthRead
+pub fn read(file: &[u8], prices: Prices) -> Result<Sections, Refused>
     ensures { Promised prices file.now result }
 {
     if file.len() < 1 {
-        return MonthRead::Refused(Refusal::FileFault, 0);
+        return Err(Refused(Refusal::FileFault, 0));
     }
     if limits::LONGEST_FILE < file.len() {
-        return MonthRead::Refused(Refusal::FileFault, 0);
+        return Err(Refused(Refusal::FileFault, 0));
     }
     let mut w = file_step::start(prices);
     let mut at = 0;
     while at < file.len() {
-        let step = file_reader::next_at(file, at, w);
-        match step {
+        match file_reader::next_at(file, at, w)? {
             Step::Next(next, size) => {
                 w = next;
                 at += size;
             }
             Step::End => {
                 if file.len() - at == record::END_SIZE {
-                    return MonthRead::Accepted(laid_out(w));
+                    return Ok(laid_out(w));
                 }
-                return MonthRead::Refused(Refusal::FileFault, w.records + 1);
-            }
-            Step::Refused(x, place) => {
-                return MonthRead::Refused(x, place);
+                return Err(Refused(Refusal::FileFault, w.records + 1));
             }
         }
     }
-    MonthRead::Refused(Refusal::FileFault, w.records)
+    Err(Refused(Refusal::FileFault, w.records))
 }

@@ -1,10 +1,9 @@
 -- How far the reading of a file has come, by numbers, and what month read so far it stands for; what one record more then does.
-use Rattle.std.specs.Prelude.{Bool, true, false, cond, ◌&&◌, ◌||◌, List, [], ◌∷◌, ◌≡◌, ℕ, ◌+◌, ◌≤◌, ◌<◌, eqb, leb, ltb, length}
-use Rattle.answer.specs.Said.{named}
+use Rattle.std.specs.Prelude.{Bool, true, false, cond, ◌&&◌, ◌||◌, List, [], ◌∷◌, ◌≡◌, ℕ, ◌+◌, ◌≤◌, ◌<◌, eqb, leb, ltb, length, Option, Some, None, Result, Ok, Err}
+use Rattle.answer.specs.Said.{verdict_of}
+use Rattle.answer.specs.declared.Refused.{Refused}
 use Rattle.answer.specs.declared.Refusal.TheVariants.{GlnFault, WrongCount}
 use Rattle.gln.specs.Gln.{gln_answer}
-use Rattle.gln.specs.declared.Gln.{Gln}
-use Rattle.gln.specs.declared.Gln.TheVariants.{Valid, Invalid}
 use Rattle.record.specs.Record.{kind_of_brp, heading_of}
 use Rattle.record.specs.declared.Record.{Record}
 use Rattle.record.specs.declared.Record.TheVariants.{Heading, Party, FixedHour, Reading, Price, RefixedHour, End}
@@ -19,7 +18,7 @@ use Rattle.rules.specs.Limits.{longest_file}
 use Rattle.rules.specs.MonthFile.{MonthFile, rises_after, record_checks, is_end}
 use Rattle.rules.specs.MonthFile as F
 use Rattle.rules.specs.Record as RRecord
-use Rattle.rules.specs.Refusals.{accepted, refused, first}
+use Rattle.rules.specs.Refusals.{accepted, first}
 
 -- nothing read yet
 abbrev pub start_of : Prices → Walk
@@ -187,22 +186,22 @@ pub record Stands (m : MonthFile) (w : Walk) : Type 0 where
   pub kind : w.party_kind ≡ kind_of_the_last m.parties
 
 -- what a step says of the record at the start of the bytes, for the month that has been read so far
-abbrev pub StepMeans : Walk → List ℕ → MonthFile → Step → Type 0
-StepMeans w bytes m (S.Next v size) =
+abbrev pub StepMeans : Walk → List ℕ → MonthFile → Result Step Refused → Type 0
+StepMeans w bytes m (Ok (S.Next v size)) =
     (first (record_checks (prices_asked w.prices_asked) m w.records bytes) ≡ accepted) × (is_end (RRecord.record_at bytes) ≡ false)
     × Stands (F.with m (RRecord.record_at bytes)) v
-StepMeans w bytes m S.End = (first (record_checks (prices_asked w.prices_asked) m w.records bytes) ≡ accepted) × (is_end (RRecord.record_at bytes) ≡ true)
-StepMeans w bytes m (S.Refused r place) = first (record_checks (prices_asked w.prices_asked) m w.records bytes) ≡ refused (named r) place
+StepMeans w bytes m (Ok S.End) = (first (record_checks (prices_asked w.prices_asked) m w.records bytes) ≡ accepted) × (is_end (RRecord.record_at bytes) ≡ true)
+StepMeans w bytes m (Err r) = first (record_checks (prices_asked w.prices_asked) m w.records bytes) ≡ verdict_of r
 
 -- of a step that goes on: so many bytes further, one record more, the prices needed or not as before
-abbrev pub StepMoves : Walk → List ℕ → Step → Type 0
-StepMoves w bytes (S.Next v size) =
+abbrev pub StepMoves : Walk → List ℕ → Result Step Refused → Type 0
+StepMoves w bytes (Ok (S.Next v size)) =
     (size ≡ 1 + RRecord.body_length (RRecord.kind_at bytes)) × (v.records ≡ w.records + 1) × Counted v × (size ≤ length bytes)
     × (v.prices_asked ≡ w.prices_asked)
-StepMoves w bytes S.End = (RRecord.body_length (RRecord.kind_at bytes) ≡ 4) × (5 ≤ length bytes)
-StepMoves w bytes (S.Refused r place) = Unit
+StepMoves w bytes (Ok S.End) = (RRecord.body_length (RRecord.kind_at bytes) ≡ 4) × (5 ≤ length bytes)
+StepMoves w bytes (Err r) = Unit
 
-pub record Stepped (w : Walk) (bytes : List ℕ) (r : Step) : Type 0 where
+pub record Stepped (w : Walk) (bytes : List ℕ) (r : Result Step Refused) : Type 0 where
   pub means : (m : MonthFile) → Stands m w → StepMeans w bytes m r
   pub moves : StepMoves w bytes r
 
@@ -217,19 +216,19 @@ moved_in w r number size = S.Next (with_in w r number) (size + 1)
 abbrev pub rises : Walk → ℕ → Bool
 rises w number = eqb w.parties 0 || ltb w.last_gln number
 
-abbrev pub risen_in : Walk → Record → Gln → ℕ → Step
-risen_in w r (Valid number) size = cond (rises w number) (moved_in w r number size) (S.Refused GlnFault w.records)
-risen_in w r Invalid size = S.Refused GlnFault w.records
+abbrev pub risen_in : Walk → Record → Option ℕ → ℕ → Result Step Refused
+risen_in w r (Some number) size = cond (rises w number) (Ok (moved_in w r number size)) (Err (GlnFault, w.records))
+risen_in w r None size = Err (GlnFault, w.records)
 
-abbrev pub counted_in : Walk → ℕ → Step
-counted_in w count = cond (eqb count w.records) S.End (S.Refused WrongCount w.records)
+abbrev pub counted_in : Walk → ℕ → Result Step Refused
+counted_in w count = cond (eqb count w.records) (Ok S.End) (Err (WrongCount, w.records))
 
 -- the last of a record's checks, and what it comes to
-abbrev pub judged_in : Walk → Record → List ℕ → ℕ → Step
-judged_in w (Heading h) gln size = moved_in w (Heading h) 0 size
+abbrev pub judged_in : Walk → Record → List ℕ → ℕ → Result Step Refused
+judged_in w (Heading h) gln size = Ok (moved_in w (Heading h) 0 size)
 judged_in w (Party brp share) gln size = risen_in w (Party brp share) (gln_answer gln) size
-judged_in w (FixedHour hour f) gln size = moved_in w (FixedHour hour f) 0 size
-judged_in w (Reading r) gln size = moved_in w (Reading r) 0 size
-judged_in w (Price hour p) gln size = moved_in w (Price hour p) 0 size
-judged_in w (RefixedHour hour f) gln size = moved_in w (RefixedHour hour f) 0 size
+judged_in w (FixedHour hour f) gln size = Ok (moved_in w (FixedHour hour f) 0 size)
+judged_in w (Reading r) gln size = Ok (moved_in w (Reading r) 0 size)
+judged_in w (Price hour p) gln size = Ok (moved_in w (Price hour p) 0 size)
+judged_in w (RefixedHour hour f) gln size = Ok (moved_in w (RefixedHour hour f) 0 size)
 judged_in w (End count) gln size = counted_in w count

@@ -6,8 +6,7 @@ ghost use Rattle.std.specs.Prelude.{◌≡◌, ◌≤◌};
 ghost use Rattle.record.specs.Record.{glns_in};
 ghost use Rattle.file_step.specs.Walk.{start_of, hours_in, after_prices_in, due_in, with_in, Few, Steppable, Stepped, moved_in, risen_in, counted_in, judged_in};
 
-use answer::{Answer, Refusal};
-use gln::Gln;
+use answer::{Refusal, Refused};
 use record::{Heading, Record};
 use setting::Prices;
 
@@ -27,12 +26,11 @@ pub struct Walk {
     pub party_kind: u8,
 }
 
-// What one record does: the reading goes on so many bytes further, ends, or is refused.
+// What a record does that is not refused: the reading goes on so many bytes further, or ends.
 #[derive(Clone, Copy)]
 pub enum Step {
     Next(Walk, usize),
     End,
-    Refused(Refusal, usize),
 }
 
 // Nothing read yet.
@@ -137,32 +135,23 @@ fn with(w: Walk, r: Record, gln_number: u64) -> Walk
 
 impl Walk {
     // One record, at the start of the bytes that are left: 2, 1, 3, 4, 5, 11, 12, 15.
-    pub fn step(self, rest: &[u8]) -> Step
+    pub fn step(self, rest: &[u8]) -> Result<Step, Refused>
         requires { Steppable self rest.now }
         ensures { Stepped self rest.now result }
     {
         let records = self.records;
         let size = record::body_length(rest[0]);
         if size == 0 {
-            return Step::Refused(Refusal::UnknownKind, records);
+            return Err(Refused(Refusal::UnknownKind, records));
         }
         if rest.len() <= size {
-            return Step::Refused(Refusal::FileFault, records);
+            return Err(Refused(Refusal::FileFault, records));
         }
         let r = record::decode(rest);
         if !due(self, r) {
-            return Step::Refused(Refusal::OutOfOrder, records);
+            return Err(Refused(Refusal::OutOfOrder, records));
         }
-        let a = record_rule::fault_of_part(
-            r,
-            rest,
-            self.heading.hours,
-            self.heading.parties,
-            records,
-        );
-        if let Answer::Refused(x, place) = a {
-            return Step::Refused(x, place);
-        }
+        record_rule::fault_of_part(r, rest, self.heading.hours, self.heading.parties, records)?;
         judged(self, r, rest, size)
     }
 }
@@ -176,40 +165,40 @@ fn moved(w: Walk, r: Record, gln_number: u64, size: usize) -> Step
 }
 
 // 5 of a party: "not rising". "GLNs rise strictly."
-fn risen(w: Walk, r: Record, g: Gln, size: usize) -> Step
+fn risen(w: Walk, r: Record, g: Option<u64>, size: usize) -> Result<Step, Refused>
     requires { (size ≤ 35) × Few w }
     ensures { result ≡ risen_in w r g size }
 {
     match g {
-        Gln::Valid(number) => {
+        Some(number) => {
             if (w.parties == 0) | (w.last_gln < number) {
-                return moved(w, r, number, size);
+                return Ok(moved(w, r, number, size));
             }
-            Step::Refused(Refusal::GlnFault, w.records)
+            Err(Refused(Refusal::GlnFault, w.records))
         }
-        Gln::Invalid => Step::Refused(Refusal::GlnFault, w.records),
+        None => Err(Refused(Refusal::GlnFault, w.records)),
     }
 }
 
 // 15: "wrong count in the end record".
-fn counted(w: Walk, count: u32) -> Step
+fn counted(w: Walk, count: u32) -> Result<Step, Refused>
     ensures { result ≡ counted_in w count }
 {
     if count as usize == w.records {
-        Step::End
+        Ok(Step::End)
     } else {
-        Step::Refused(Refusal::WrongCount, w.records)
+        Err(Refused(Refusal::WrongCount, w.records))
     }
 }
 
 // The last of a record's checks, and what it comes to: a party's GLN has to rise, an end has to count right.
-fn judged(w: Walk, r: Record, rest: &[u8], size: usize) -> Step
+fn judged(w: Walk, r: Record, rest: &[u8], size: usize) -> Result<Step, Refused>
     requires { (size ≤ 35) × Few w }
     ensures { result ≡ judged_in w r (glns_in rest.now).gln size }
 {
     match r {
         Record::Party(_, _) => risen(w, r, gln::check(record::gln_in(rest)), size),
         Record::End(count) => counted(w, count),
-        _ => moved(w, r, 0, size),
+        _ => Ok(moved(w, r, 0, size)),
     }
 }

@@ -1,13 +1,11 @@
 -- What the two functions of `gln` answer, in the words of the rules (01 "The month file").
-use Rattle.std.specs.Prelude.{cond, List, [], ℕ, ◌+◌, leb, length, take, drop}
-use Rattle.gln.specs.declared.Gln.{Gln}
-use Rattle.gln.specs.declared.Gln.TheVariants.{Valid, Invalid}
+use Rattle.std.specs.Prelude.{cond, List, [], ℕ, ◌+◌, leb, length, take, drop, Option, Some, None}
 use Rattle.rules.specs.Gln.{valid_gln, digits_onto}
 use Rattle.rules.specs.Limits.{gln_digits}
 
--- a GLN's number where the bytes are one, and else the answer that they are none
-unfoldable pub gln_answer : List ℕ → Gln
-gln_answer bytes = cond (valid_gln bytes) (Valid (digits_onto 0 bytes)) Invalid
+-- a GLN's number where the bytes are one, and else none
+unfoldable pub gln_answer : List ℕ → Option ℕ
+gln_answer bytes = cond (valid_gln bytes) (Some (digits_onto 0 bytes)) None
 
 -- the thirteen bytes from a place on, or none where they run past the end
 unfoldable pub gln_part : List ℕ → ℕ → List ℕ

@@ -1,10 +1,9 @@
 -- The promises, each said once: a function's `ensures` cites it by its name, and so does what is proved of every service (`every_service`).
-use Rattle.std.specs.Prelude.{List, ◌≡◌, ℕ}
+use Rattle.std.specs.Prelude.{List, ◌≡◌, ℕ, Option}
 use Rattle.gln.specs.Gln.{gln_answer, gln_part}
-use Rattle.gln.specs.declared.Gln.{Gln}
 
 -- `check`
-abbrev pub CheckPromised : List ℕ → Gln → Type 0
+abbrev pub CheckPromised : List ℕ → Option ℕ → Type 0
 CheckPromised part r = r ≡ gln_answer part
 
 -- `part_at`

@@ -6,13 +6,6 @@ ghost use Rattle.std.specs.Prelude.{◌≡◌};
 ghost use Rattle.gln.specs.Promised.{CheckPromised, PartAtPromised};
 ghost use Rattle.rules.specs.Gln.{weight_of_position};
 
-// A GLN's thirteen digits as one number, or the answer that it is none.
-#[derive(Clone, Copy)]
-pub enum Gln {
-    Valid(u64),
-    Invalid,
-}
-
 // GS1's rule counts the positions of the digits from the right, from 1: position 1 is the check digit. "weighted 1, 3, 1, 3 .. from the right": an odd
 // position weighs 1, an even one 3.
 fn weight_of_position(position: usize) -> u64
@@ -31,32 +24,31 @@ fn weight_of_position(position: usize) -> u64
 //     digit       6   2   9   1   0   4   1   5   0   0   2   1   3
 //     weight      1   3   1   3   1   3   1   3   1   3   1   3   1
 //     product     6   6   9   3   0  12   1  15   0   0   2   3   3     sum 60, a multiple of 10
-pub fn check(part: &[u8]) -> Gln
+pub fn check(part: &[u8]) -> Option<u64>
     ensures { CheckPromised part.now result }
 {
     if part.len() != limits::GLN_DIGITS {
-        return Gln::Invalid;
+        return None;
     }
     let mut number: u64 = 0;
     let mut weighted: u64 = 0;
-    let mut position: usize = limits::GLN_DIGITS;
-    while 0 < position {
-        let byte = part[limits::GLN_DIGITS - position];
+    for (i, digit) in part.iter().enumerate() {
+        let position = limits::GLN_DIGITS - i;
+        let byte = *digit;
         if byte < b'0' {
-            return Gln::Invalid;
+            return None;
         }
         if b'9' < byte {
-            return Gln::Invalid;
+            return None;
         }
-        let digit = (byte - b'0') as u64;
+        let digit = u64::from(byte - b'0');
         number = number * 10 + digit;
         weighted += weight_of_position(position) * digit;
-        position -= 1;
     }
     if weighted % 10 != 0 {
-        return Gln::Invalid;
+        return None;
     }
-    Gln::Valid(number)
+    Some(number)
 }
 
 // The thirteen bytes from a place on, as a part of the file and no copy; an empty part where they run past its end.

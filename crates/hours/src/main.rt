@@ -15,7 +15,7 @@ ghost use Rattle.rules.specs.Setting.{final};
 ghost use Rattle.standard_input.specs.Known.{Writes};
 ghost use Rattle.standard_input.specs.Reading.{FullyRead, TextOf};
 
-use report_text::Reported;
+use report_text::Lines;
 use setting::Setting;
 use standard_input::{Ending, Fault};
 use std::io::{Read, Write};
@@ -27,14 +27,6 @@ const FIRST_ROOM: usize = report_text::FIRST_ROOM;
 const REST_ROOM: usize = report_text::REST_ROOM;
 
 const PARTIES_ROOM: usize = report_text::PARTIES_ROOM;
-
-// How many bytes at the start of each buffer are printed, one part after the other.
-#[derive(Clone, Copy)]
-struct Parts {
-    first: usize,
-    rest: usize,
-    parties: usize,
-}
 
 // The buffers for the parts.
 fn first_room() -> [u8; FIRST_ROOM]
@@ -56,10 +48,10 @@ fn parties_room() -> [u8; PARTIES_ROOM]
 }
 
 // A line alone: the first part, and there is no other.
-fn alone(bytes: usize) -> Parts
+fn alone(bytes: usize) -> Lines
     ensures { result ≡ record { first = bytes; rest = 0; parties = 0 } }
 {
-    Parts {
+    Lines {
         first: bytes,
         rest: 0,
         parties: 0,
@@ -68,20 +60,16 @@ fn alone(bytes: usize) -> Parts
 
 // The text of a file in three parts at the starts of the buffers: THE FINAL REPORT OF THE FILE. A refusal goes to the line that is printed of it, alone; an
 // accepted month's lines are there already.
-fn file_text(file: &[u8], first: &mut [u8], rest: &mut [u8], parties: &mut [u8]) -> Parts
+fn file_text(file: &[u8], first: &mut [u8], rest: &mut [u8], parties: &mut [u8]) -> Lines
     requires { Roomy (length first.old) (length rest.old) (length parties.old) }
     ensures within { Within result first.new rest.new parties.new }
     ensures text { printed result first.new rest.new parties.new ≡ hours_report final file.now }
 {
     let reported = report_text::report(file, Setting::Final, first, rest, parties);
-    let Reported::Lines(a, b, c) = reported else {
+    let Ok(lines) = reported else {
         return alone(report_text::refusal_line(reported, first));
     };
-    Parts {
-        first: a,
-        rest: b,
-        parties: c,
-    }
+    lines
 }
 
 // The text of an input in the same parts, by how its reading ended: THE FINAL REPORT OF THE INPUT. Of one that is too long it is the same line, whatever its bytes; one
@@ -92,7 +80,7 @@ fn input_text(
     first: &mut [u8],
     rest: &mut [u8],
     parties: &mut [u8],
-) -> Parts
+) -> Lines
     requires fully_read { FullyRead ending file.now }
     requires roomy { Roomy (length first.old) (length rest.old) (length parties.old) }
     ensures within { Within result first.new rest.new parties.new }

@@ -1,9 +1,10 @@
 -- The demands (00) of the call on a whole file, over the file's bytes and the setting given (02, W1): when it accepts and when it refuses (demand 2), and what
 -- holds of an accepted month and of the lent outputs (demand 3, and the sums that must come out). That they hold of every answer that meets the call's promise
 -- is proved in proofs/Theorems.
-use Rattle.std.specs.Prelude.{Bool, true, false, List, ◌≡◌, ℕ, ◌≤◌, ◌<◌, ℤ, pos, length}
+use Rattle.std.specs.Prelude.{Bool, true, false, List, ◌≡◌, ℕ, ◌≤◌, ◌<◌, ℤ, pos, length, Result}
 use Rattle.month_service.specs.Told.{lent_right, Promised}
-use Rattle.month_service.specs.declared.Settlement.{Settlement}
+use Rattle.answer.specs.declared.Refused.{Refused}
+use Rattle.month_service.specs.declared.Summary.{Summary}
 use Rattle.setting.specs.Asked.{asked}
 use Rattle.setting.specs.declared.Setting.{Setting}
 use Rattle.rules.specs.BrpDemands.{BrpDemands}
@@ -32,7 +33,7 @@ pub record Outputs : Type 0 where
   pub amounts : List ℤ
 
 -- the promise of the call (`month_service`), of such outputs before and after it
-abbrev pub Kept : Setting → List ℕ → Settlement → Outputs → Outputs → Type 0
+abbrev pub Kept : Setting → List ℕ → Result Summary Refused → Outputs → Outputs → Type 0
 Kept setting file r lent held =
     Promised setting file r lent.distributed lent.periodised lent.losses lent.differences lent.amounts
     held.distributed held.periodised held.losses held.differences held.amounts

@@ -1,20 +1,18 @@
 -- The refusals after a file is read, up to the readings (01 "Refusal numbers"; 02, W1): 17; "Then 6; then the fixed hours in order, each 7, 8, 9; the refixed
 -- hours likewise; 10 by hour; 13 by reading" (02, W3: 18 and 13); and what is made on the way. The setting decides the verdict; no figure depends on it.
-use Rattle.std.specs.Prelude.{List, ◌≡◌, ℕ, suc, ◌+◌, ◌-◌, ◌<◌, pos, length, replicate, take, drop}
+use Rattle.std.specs.Prelude.{List, ◌≡◌, ℕ, suc, ◌+◌, ◌-◌, ◌<◌, pos, length, replicate, take, drop, Result, Ok}
 use Rattle.answer.specs.Said.{said}
+use Rattle.answer.specs.declared.Refused.{Refused}
 use Rattle.distribute.specs.Good.{Started}
 use Rattle.distribute.specs.declared.Carries.{Carries}
 use Rattle.month_prepare.specs.declared.Made.{Made}
 use Rattle.month_prepare.specs.declared.Prepared.{Prepared}
-use Rattle.month_prepare.specs.declared.Weighed.{Weighed}
 use Rattle.file_sections.specs.Walk.{Accepted}
 use Rattle.file_sections.specs.declared.Sections.{Sections}
 use Rattle.setting.specs.Asked.{asked}
 use Rattle.setting.specs.declared.Setting.{Setting}
-use Rattle.month_series.specs.Series.{residual_at, judged_verdict, beginnings_of}
-use Rattle.month_series.specs.declared.Judged.{Judged}
-use Rattle.month_series.specs.declared.Judged.TheVariants.{Figures}
-use Rattle.rules.specs.Limits.{greatest_w, most_hours, most_parties}
+use Rattle.month_series.specs.Series.{residual_at, beginnings_of}
+use Rattle.rules.specs.Limits.{greatest_w, most_hours}
 use Rattle.rules.specs.Month.{month_of, share_of, month_w, fixed_wh, curve, estimated_hours, refixed_verdict, hour_verdict, curve_verdict, reading_verdict}
 use Rattle.rules.specs.MonthFile.{MonthFile, H, P}
 use Rattle.rules.specs.Refusals.{w_out_of_range, Verdict, accepted, unless, and_then, in_turn}
@@ -49,16 +47,16 @@ pub record BothAsked (file : List ℕ) (s : Sections) (fixed refixed : ℕ) : Ty
   pub fixed_size : fixed ≡ s.heading.hours
   pub refixed_size : refixed ≡ s.refixed
 
-pub record BothKnown (m : MonthFile) (r : Judged) (fixed refixed : List ℕ) : Type 0 where
-  pub verdict : judged_verdict r ≡ hours_verdict m
-  pub fixed_is : judged_verdict r ≡ accepted → fixed ≡ Words.figures (H m) (fixed_wh m)
-  pub refixed_is : judged_verdict r ≡ accepted → refixed ≡ Words.figures (length m.refixed) (residual_at m.refixed)
-  pub estimated : (n : ℕ) → r ≡ Figures n → n ≡ estimated_hours m
+pub record BothKnown (m : MonthFile) (r : Result ℕ Refused) (fixed refixed : List ℕ) : Type 0 where
+  pub verdict : said r ≡ hours_verdict m
+  pub fixed_is : said r ≡ accepted → fixed ≡ Words.figures (H m) (fixed_wh m)
+  pub refixed_is : said r ≡ accepted → refixed ≡ Words.figures (length m.refixed) (residual_at m.refixed)
+  pub estimated : (n : ℕ) → r ≡ Ok n → n ≡ estimated_hours m
 
 -- 17, "Then 6": the setting, W, and the carries before the first hour
-pub record WeighedIs (setting : Setting) (m : MonthFile) (r : Weighed) : Type 0 where
-  pub verdict : said r.answer ≡ weighed_verdict (asked setting) m
-  pub started : said r.answer ≡ accepted → Started (Words.figures (P m) (share_of m)) r.carries
+pub record WeighedIs (setting : Setting) (m : MonthFile) (r : Result Carries Refused) : Type 0 where
+  pub verdict : said r ≡ weighed_verdict (asked setting) m
+  pub started : (c : Carries) → r ≡ Ok c → Started (Words.figures (P m) (share_of m)) c
 
 -- what the curve is made of: hours that are judged, and W
 pub record CurveAsked (file : List ℕ) (s : Sections) (fixed : List ℕ) (w curveNumbers beginnings : ℕ) : Type 0 where
@@ -82,20 +80,6 @@ pub record MakingAsked (file : List ℕ) (s : Sections) (fixed refixed curveNumb
   pub curve_size : curveNumbers ≡ s.heading.hours
   pub beginnings_size : beginnings ≡ suc s.heading.hours
 
--- the carries of no party, where a month is refused before there is a W
-abbrev pub nothing_carried : Carries
-nothing_carried =
-    record {
-      parties = 0;
-      w = 0;
-      sum_wh = 0;
-      left = 0;
-      share = replicate most_parties 0;
-      remainder = replicate most_parties 0;
-      extra = replicate most_parties 0;
-      figures = replicate most_parties (pos 0);
-    }
-
 -- WHAT IS MADE of a month that none of these checks refuses
 pub record Making (m : MonthFile) (r : Made) (fixed refixed curveNumbers beginnings : List ℕ) : Type 0 where
   pub judged : M.Judged m
@@ -107,12 +91,12 @@ pub record Making (m : MonthFile) (r : Made) (fixed refixed curveNumbers beginni
   pub readings_pass : (j : ℕ) → j < length m.readings → reading_verdict m j ≡ accepted
   pub beginnings_are : beginnings ≡ beginnings_of m
 
-pub record MadeIs (setting : Setting) (m : MonthFile) (r : Made) (fixed refixed curveNumbers beginnings : List ℕ) : Type 0 where
-  pub verdict : said r.answer ≡ making_verdict (asked setting) m
-  pub made : said r.answer ≡ accepted → Making m r fixed refixed curveNumbers beginnings
+pub record MadeIs (setting : Setting) (m : MonthFile) (r : Result Made Refused) (fixed refixed curveNumbers beginnings : List ℕ) : Type 0 where
+  pub verdict : said r ≡ making_verdict (asked setting) m
+  pub made : (x : Made) → r ≡ Ok x → Making m x fixed refixed curveNumbers beginnings
 
 -- the same, of arrays with a place for each hour that a month can have; behind those of the month each place has 0
-pub record PreparedIs (setting : Setting) (file : List ℕ) (s : Sections) (r : Prepared) : Type 0 where
+pub record Placed (file : List ℕ) (s : Sections) (r : Prepared) : Type 0 where
   pub fixed_places : length r.fixed_wh ≡ most_hours
   pub refixed_places : length r.refixed_wh ≡ most_hours
   pub curve_places : length r.curve ≡ most_hours
@@ -122,6 +106,10 @@ pub record PreparedIs (setting : Setting) (file : List ℕ) (s : Sections) (r : 
   pub curve_past : drop s.heading.hours r.curve ≡ replicate (most_hours - s.heading.hours) 0
   pub beginnings_past : drop (s.heading.hours + 1) r.beginnings ≡ replicate (suc most_hours - (s.heading.hours + 1)) 0
   pub is :
-      MadeIs setting (month_of file) r.made
+      Making (month_of file) r.made
       (take s.heading.hours r.fixed_wh) (take s.refixed r.refixed_wh)
       (take s.heading.hours r.curve) (take (s.heading.hours + 1) r.beginnings)
+
+pub record PreparedIs (setting : Setting) (file : List ℕ) (s : Sections) (r : Result Prepared Refused) : Type 0 where
+  pub verdict : said r ≡ making_verdict (asked setting) (month_of file)
+  pub prepared : (x : Prepared) → r ≡ Ok x → Placed file s x

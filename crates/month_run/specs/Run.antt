@@ -1,8 +1,8 @@
 -- The call on a run of hours of a month (02, W6): "one operation gives distributed, periodised, loss and difference per hour". Figures stand hour by hour and
 -- within an hour party by party.
-use Rattle.std.specs.Prelude.{Bool, ◌&&◌, List, ◌≡◌, ℕ, ◌+◌, ◌*◌, eqb, leb, ℤ, length}
+use Rattle.std.specs.Prelude.{Bool, ◌&&◌, List, ◌≡◌, ℕ, ◌+◌, ◌*◌, eqb, leb, ℤ, length, Result, ⊤}
 use Rattle.answer.specs.Said.{said}
-use Rattle.answer.specs.declared.Answer.{Answer}
+use Rattle.answer.specs.declared.Refused.{Refused}
 use Rattle.month_walk.specs.Hours.{all_limited}
 use Rattle.month_run.specs.InRun.{distributed_in_run, periodised_in_run, loss_in_run}
 use Rattle.setting.specs.Asked.{asked}
@@ -37,7 +37,7 @@ run_verdict setting file start hours distributed periodised differences losses =
     (asked_verdict (H (month_of file)) (P (month_of file)) start hours distributed periodised differences losses)
 
 -- THE PROMISE OF THE CALL: its answer, and what each lent output holds afterwards
-pub record Promised (setting : Setting) (file : List ℕ) (start hours : ℕ) (r : Answer) (d₀ : List ℤ) (p₀ : List ℕ) (x₀ l₀ d : List ℤ) (p : List ℕ) (x l : List ℤ) : Type 0 where
+pub record Promised (setting : Setting) (file : List ℕ) (start hours : ℕ) (r : Result ⊤ Refused) (d₀ : List ℤ) (p₀ : List ℕ) (x₀ l₀ d : List ℤ) (p : List ℕ) (x l : List ℤ) : Type 0 where
   pub answer : said r ≡ run_verdict setting file start hours (length d₀) (length p₀) (length x₀) (length l₀)
   pub distributed : d ≡ afterwards (said r) (figures (hours * P (month_of file)) (distributed_in_run (month_of file) start)) d₀
   pub periodised : p ≡ afterwards (said r) (figures (hours * P (month_of file)) (periodised_in_run (month_of file) start)) p₀
@@ -45,5 +45,5 @@ pub record Promised (setting : Setting) (file : List ℕ) (start hours : ℕ) (r
   pub losses : l ≡ afterwards (said r) (figures hours (loss_in_run (month_of file) start)) l₀
 
 -- the same of a month that nothing refuses before its hours, whatever the setting: 14 decides, and then what is asked
-pub record HoursAnswered (file : List ℕ) (start hours : ℕ) (r : Answer) (d₀ : List ℤ) (p₀ : List ℕ) (x₀ l₀ d : List ℤ) (p : List ℕ) (x l : List ℤ) : Type 0 where
+pub record HoursAnswered (file : List ℕ) (start hours : ℕ) (r : Result ⊤ Refused) (d₀ : List ℤ) (p₀ : List ℕ) (x₀ l₀ d : List ℤ) (p : List ℕ) (x l : List ℤ) : Type 0 where
   pub under : (setting : Setting) → file_verdict optional (asked setting) file ≡ all_limited (month_of file) → Promised setting file start hours r d₀ p₀ x₀ l₀ d p x l

@@ -1,18 +1,17 @@
 -- The series of a month that a file is read as (01 "From flows to the curve" and "Refusal numbers"): the fixed and the refixed hours, their residuals, and the
 -- curve's sums up to each hour.
-use Rattle.std.specs.Prelude.{Bool, cond, List, [], ◌∷◌, ◌≡◌, ℕ, suc, ◌<◌, eqb, length}
-use Rattle.answer.specs.Said.{named}
+use Rattle.std.specs.Prelude.{Bool, cond, List, [], ◌∷◌, ◌≡◌, ℕ, suc, ◌<◌, eqb, length, Result, Ok}
+use Rattle.answer.specs.Said.{said}
+use Rattle.answer.specs.declared.Refused.{Refused}
 use Rattle.file_sections.specs.Walk.{Accepted}
 use Rattle.file_sections.specs.declared.Sections.{Sections}
-use Rattle.month_series.specs.declared.Judged.{Judged}
-use Rattle.month_series.specs.declared.Judged.TheVariants.{Figures, Refused}
 use Rattle.periodise.specs.declared.Spread.{Spread}
 use Rattle.rules.specs.Flows.{Flows, residual_wh}
 use Rattle.rules.specs.Limits as Limits
 use Rattle.rules.specs.Month.{flows_at, curve, weight_before, whole_weight, weights_fit, follows_whole, hour_verdict, is_estimated}
 use Rattle.rules.specs.MonthFile.{MonthFile, H}
 use Rattle.rules.specs.Record.{Reading}
-use Rattle.rules.specs.Refusals.{whole_exceeded, nothing_to_follow, Verdict, accepted, refused, unless, in_turn}
+use Rattle.rules.specs.Refusals.{whole_exceeded, nothing_to_follow, Verdict, accepted, unless, in_turn}
 use Rattle.rules.specs.Words as Words
 
 -- "There is a fixed series and possibly a refixed one."
@@ -55,13 +54,9 @@ spread_checks s own place =
     ∷ unless (follows_whole s.e_wh s.whole) nothing_to_follow place
     ∷ []
 
--- "then the fixed hours in order, each 7, 8, 9; the refixed hours likewise": what is said of a series
-abbrev pub judged_verdict : Judged → Verdict
-judged_verdict (Figures n) = accepted
-judged_verdict (Refused r place) = refused (named r) place
-
--- a series that was judged: the first hour that has no figure, or the figures of all hours and how many of them are estimated
-pub record SeriesIs (series : List Flows) (r : Judged) (out : List ℕ) : Type 0 where
-  pub verdict : judged_verdict r ≡ in_turn (length series) (hour_verdict series)
-  pub figures : judged_verdict r ≡ accepted → out ≡ Words.figures (length series) (residual_at series)
-  pub estimated : (n : ℕ) → r ≡ Figures n → n ≡ Words.count (length series) (is_estimated series)
+-- "then the fixed hours in order, each 7, 8, 9; the refixed hours likewise": a series that was judged, the first hour that has no figure, or the figures of all
+-- hours and how many of them are estimated
+pub record SeriesIs (series : List Flows) (r : Result ℕ Refused) (out : List ℕ) : Type 0 where
+  pub verdict : said r ≡ in_turn (length series) (hour_verdict series)
+  pub figures : said r ≡ accepted → out ≡ Words.figures (length series) (residual_at series)
+  pub estimated : (n : ℕ) → r ≡ Ok n → n ≡ Words.count (length series) (is_estimated series)

@@ -16,18 +16,11 @@ ghost use Rattle.rules.specs.MonthFile.{P};
 ghost use Rattle.rules.specs.Refusals.{first, in_turn};
 ghost use Rattle.rules.specs.Words.{figures, at};
 
-use answer::{Answer, Refusal};
+use answer::{Refusal, Refused};
 use file_sections::Sections;
 use periodise::Spread;
 use record::{Flows, Over, Reading};
-use residual::Hour;
-
-// A series that was judged: how many of its hours are estimated, where each has its figure; or the first refusal and its hour.
-#[derive(Clone, Copy)]
-pub enum Judged {
-    Figures(usize),
-    Refused(Refusal, usize),
-}
+use residual::NoResidual;
 
 // The load share of every party, in kWh per year.
 pub fn shares(file: &[u8], s: Sections, out: &mut [u64])
@@ -35,10 +28,8 @@ pub fn shares(file: &[u8], s: Sections, out: &mut [u64])
     requires out_len { length out.old ≡ s.heading.parties }
     ensures { out.new ≡ figures (P (month_of file.now)) (share_of (month_of file.now)) }
 {
-    let mut i = 0;
-    while i < out.len() {
+    for i in 0..out.len() {
         out[i] = file_fields::load_share(file, s, i);
-        i += 1;
     }
 }
 
@@ -55,7 +46,7 @@ fn flows_at(file: &[u8], s: Sections, refixed: bool, t: usize) -> Flows
 }
 
 // "each 7, 8, 9": what is decided of one hour by its status and its flows.
-fn judge_flows(f: Flows) -> Hour
+fn judge_flows(f: Flows) -> Result<u32, NoResidual>
     requires { flows_in_range (flows_of f) ≡ true }
     ensures { judgement result ≡ judged (flows_of f) }
 {
@@ -67,38 +58,30 @@ fn judge_flows(f: Flows) -> Hour
 fn estimated_one(status: u8) -> usize
     ensures { result ≡ estimated_one status }
 {
-    if status == limits::ESTIMATED { 1 } else { 0 }
+    usize::from(status == limits::ESTIMATED)
 }
 
-// "then the fixed hours in order, each 7, 8, 9; the refixed hours likewise": the residual of every hour of either series, or the first hour that has none.
-pub fn hours(file: &[u8], s: Sections, refixed: bool, out: &mut [u32]) -> Judged
+// "then the fixed hours in order, each 7, 8, 9; the refixed hours likewise": the residual of every hour of either series, and how many of its hours are estimated; or
+// the first hour that has none.
+pub fn hours(file: &[u8], s: Sections, refixed: bool, out: &mut [u32]) -> Result<usize, Refused>
     requires accepted { Accepted file.now s }
     requires out_len { length out.old ≡ hours_in s refixed }
     ensures { SeriesIs (series_of (month_of file.now) refixed) result out.new }
 {
     let mut estimated = 0;
-    let mut t = 0;
-    while t < out.len() {
+    for t in 0..out.len() {
         let f = flows_at(file, s, refixed, t);
-        let hour = judge_flows(f);
-        match hour {
-            Hour::Figure(wh) => {
+        match judge_flows(f) {
+            Ok(wh) => {
                 out[t] = wh;
                 estimated += estimated_one(f.status);
-                t += 1;
             }
-            Hour::Missing => {
-                return Judged::Refused(Refusal::MissingHour, t);
-            }
-            Hour::Negative => {
-                return Judged::Refused(Refusal::ResidualNegative, t);
-            }
-            Hour::TooLarge => {
-                return Judged::Refused(Refusal::ResidualTooLarge, t);
+            Err(why) => {
+                return Err(Refused(Refusal::from(why), t));
             }
         }
     }
-    Judged::Figures(estimated)
+    Ok(estimated)
 }
 
 // What the curve adds up to before each hour, and last over the whole month: the weights of a reading a..b are then a difference of two of these.
@@ -108,13 +91,11 @@ pub fn beginnings(curve: &[u32], out: &mut [u64])
     ensures { out.new ≡ figures (suc (length curve.now)) (beginning (at curve.now)) }
 {
     let mut sum = 0;
-    let mut t = 0;
-    while t < curve.len() {
+    for t in 0..curve.len() {
         out[t] = sum;
-        sum += curve[t] as u64;
-        t += 1;
+        sum += u64::from(curve[t]);
     }
-    out[t] = sum;
+    out[curve.len()] = sum;
 }
 
 // What the curve weighs between two hours.
@@ -163,36 +144,31 @@ fn follows(s: Spread) -> bool
 }
 
 // 18 of a reading, and then 13.
-fn judge_reading(s: Spread, own: u64, j: usize) -> Answer
+fn judge_reading(s: Spread, own: u64, j: usize) -> Result<(), Refused>
     ensures { said result ≡ first (spread_checks s own j) }
 {
     if !weights_fit(s, own) {
-        return Answer::Refused(Refusal::WholeExceeded, j);
+        return Err(Refused(Refusal::WholeExceeded, j));
     }
     if !follows(s) {
-        return Answer::Refused(Refusal::NothingToFollow, j);
+        return Err(Refused(Refusal::NothingToFollow, j));
     }
-    Answer::Done
+    Ok(())
 }
 
 // "13 by reading", and 18 before it (02, W3): the first reading that is refused. Each stands behind the bytes of the one before it.
-pub fn judge_readings(file: &[u8], s: Sections, beginnings: &[u64]) -> Answer
+pub fn judge_readings(file: &[u8], s: Sections, beginnings: &[u64]) -> Result<(), Refused>
     requires accepted { Accepted file.now s }
     requires beginnings_value { beginnings.now ≡ beginnings_of (month_of file.now) }
     ensures { said result ≡ in_turn (length (month_of file.now).readings) (reading_verdict (month_of file.now)) }
 {
     let readings = s.readings;
     let mut place = s.readings_at;
-    let mut j = 0;
-    while j < readings {
+    for j in 0..readings {
         let x = file_fields::reading(file, place);
         let own = weight_between(beginnings, x.a as usize, x.b as usize);
-        let judged = judge_reading(spread_of(x, own), own, j);
-        let Answer::Done = judged else {
-            return judged;
-        };
+        judge_reading(spread_of(x, own), own, j)?;
         place += record::reading_size(x);
-        j += 1;
     }
-    Answer::Done
+    Ok(())
 }

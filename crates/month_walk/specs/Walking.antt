@@ -1,8 +1,7 @@
 -- A walk through the hours of a month: what it is made of, what a window's places hold, where the walk stands, and what a step comes to.
-use Rattle.std.specs.Prelude.{List, ◌≡◌, ℕ, ◌+◌, ◌*◌, ◌≤◌, ◌<◌, ℤ, length}
+use Rattle.std.specs.Prelude.{List, ◌≡◌, ℕ, ◌+◌, ◌*◌, ◌≤◌, ◌<◌, ℤ, length, Result, Ok, Err}
 use Rattle.answer.specs.Said.{said}
-use Rattle.answer.specs.declared.Answer.TheVariants.{Done, Refused}
-use Rattle.answer.specs.declared.Refusal.{Refusal}
+use Rattle.answer.specs.declared.Refused.{Refused}
 use Rattle.distribute.specs.Good.{Started}
 use Rattle.distribute.specs.declared.Carries.{Carries}
 use Rattle.file_sections.specs.Walk.{Accepted}
@@ -10,7 +9,6 @@ use Rattle.file_sections.specs.declared.Sections.{Sections}
 use Rattle.hour_settled.specs.Column.{column}
 use Rattle.month_series.specs.Series.{beginnings_of}
 use Rattle.month_walk.specs.declared.Held.{Held}
-use Rattle.month_walk.specs.declared.Opened.{Opened}
 use Rattle.month_walk.specs.declared.Walk.{Walk}
 use Rattle.month_walk.specs.Hours.{DistributedIs, Carried}
 use Rattle.rules.specs.Month.{month_of, share_of, applied_wh, curve, periodised, reading_verdict, periodised_verdict}
@@ -79,12 +77,10 @@ pub record HoldsHour (m : MonthFile) (x : Held) (t : ℕ) (window : List ℕ) : 
   pub left : t < x.start + x.hours
 
 -- the window of hour t; and the verdict of 14 over the whole month where one of its hours is refused
-pub record OpenedIs (m : MonthFile) (t : ℕ) (r : Opened) (window : List ℕ) : Type 0 where
-  pub begun : r.held.start ≤ t
-  pub left : t < r.held.start + r.held.hours
-  pub is : WindowIs m r.held window
-  pub opened : r.answer ≡ Done → HoldsHour m r.held t window
-  pub stopped : (x : Refusal) (place : ℕ) → r.answer ≡ Refused x place → said r.answer ≡ in_turn (H m) (periodised_verdict m)
+pub record OpenedIs (m : MonthFile) (t : ℕ) (r : Result Held Refused) (window : List ℕ) : Type 0 where
+  pub window_is : SomeWindow m window
+  pub opened : (x : Held) → r ≡ Ok x → HoldsHour m x t window
+  pub stopped : (x : Refused) → r ≡ Err x → said r ≡ in_turn (H m) (periodised_verdict m)
 
 -- WHERE A WALK STANDS
 pub record Walked (m : MonthFile) (w : Walk) (window : List ℕ) : Type 0 where
@@ -97,7 +93,7 @@ pub record Walked (m : MonthFile) (w : Walk) (window : List ℕ) : Type 0 where
 
 -- before the first hour
 abbrev pub begun : Carries → Walk
-begun c = record { answer = Done; carries = c; t = 0; held = record { start = 0; hours = 0 } }
+begun c = record { carries = c; t = 0; held = record { start = 0; hours = 0 } }
 
 -- a step can be taken: there is an hour left
 pub record StepAsked (m : MonthFile) (w : Walk) (window : List ℕ) : Type 0 where
@@ -112,10 +108,10 @@ pub record HourOn (m : MonthFile) (t : ℕ) (w : Walk) (window : List ℕ) : Typ
   pub distributed : DistributedIs m t w.carries.figures
 
 -- WHAT A STEP COMES TO
-pub record SteppedIs (m : MonthFile) (t : ℕ) (r : Walk) (window : List ℕ) : Type 0 where
+pub record SteppedIs (m : MonthFile) (t : ℕ) (r : Result Walk Refused) (window : List ℕ) : Type 0 where
   pub window_is : SomeWindow m window
-  pub on : r.answer ≡ Done → HourOn m t r window
-  pub stopped : (x : Refusal) (place : ℕ) → r.answer ≡ Refused x place → said r.answer ≡ in_turn (H m) (periodised_verdict m)
+  pub on : (w : Walk) → r ≡ Ok w → HourOn m t w window
+  pub stopped : (x : Refused) → r ≡ Err x → said r ≡ in_turn (H m) (periodised_verdict m)
 
 -- an hour of a window can be settled
 pub record HourAsked (file : List ℕ) (s : Sections) (t residual : ℕ) (x : Held) (distributed : List ℤ) (window : List ℕ) : Type 0 where

@@ -11,36 +11,6 @@ ghost use Rattle.rules.specs.Words.{at, figures};
 use file_sections::Sections;
 use record::Reading;
 
-// Nothing in any place.
-fn clear(out: &mut [u64])
-    ensures { out.new ≡ figures (length out.old) no_wh }
-{
-    let mut i = 0;
-    while i < out.len() {
-        out[i] = 0;
-        i += 1;
-    }
-}
-
-// The later and the earlier of two hours.
-fn later(x: usize, y: usize) -> usize
-    ensures { result ≡ max x y }
-{
-    if x < y {
-        return y;
-    }
-    x
-}
-
-pub fn earlier(x: usize, y: usize) -> usize
-    ensures { result ≡ min x y }
-{
-    if x < y {
-        return x;
-    }
-    y
-}
-
 // Where a party's k-th hour of the window stands: party after party, each with a place for every hour.
 fn slot(party: u8, hours: usize, k: usize) -> usize
     requires { party * hours + k < 2 ^ 64 }
@@ -65,8 +35,8 @@ fn add_reading(
 {
     let a = x.a as usize;
     let b = x.b as usize;
-    let begin = later(a, start);
-    let end = earlier(b, start + hours);
+    let begin = a.max(start);
+    let end = b.min(start + hours);
     if begin < end {
         let low = slot(x.party, hours, begin - start);
         let high = slot(x.party, hours, end - start);
@@ -95,14 +65,12 @@ pub fn window(
     requires { Asked file.now s curve.now beginnings.now start hours (length out.old) }
     ensures { Window (month_of file.now) start hours out.new }
 {
-    clear(out);
+    out.fill(0);
     let readings = s.readings;
     let mut place = s.readings_at;
-    let mut j = 0;
-    while j < readings {
+    for j in 0..readings {
         let x = file_fields::reading(file, place);
         add_reading(x, curve, beginnings, start, hours, out);
         place += record::reading_size(x);
-        j += 1;
     }
 }

@@ -7,12 +7,6 @@ ghost use Rattle.periodise.specs.Growth.{grown_from, Part, Turning, Turned, Room
 ghost use Rattle.rules.specs.Limits.{greatest_energy, greatest_whole};
 ghost use Rattle.rules.specs.Words.{sum, figures, at};
 
-fn wide(x: u32) -> u64
-    ensures { result ≡ x }
-{
-    x as u64
-}
-
 // E x weights passes 64 bits (1,000,000,000 x 8,784,000,000,000), so the product goes by two digits of 20 bits; the remainder after the first keeps the
 // second within 64.
 fn product_mod(a: u64, b: u64, m: u64) -> u64
@@ -32,10 +26,8 @@ pub fn total(values: &[u32]) -> u64
     ensures { result ≡ sum (length values.now) (at values.now) }
 {
     let mut sum_so_far: u64 = 0;
-    let mut i = 0;
-    while i < values.len() {
-        sum_so_far += wide(values[i]);
-        i += 1;
+    for value in values {
+        sum_so_far += u64::from(*value);
     }
     sum_so_far
 }
@@ -44,10 +36,7 @@ pub fn total(values: &[u32]) -> u64
 pub fn divisor_of(whole: u64) -> u64
     ensures { result ≡ max whole 1 }
 {
-    if whole < 1 {
-        return 1;
-    }
-    whole
+    whole.max(1)
 }
 
 // An hour's figure, and what is left of E x (weights so far) for the hours after it.
@@ -62,7 +51,7 @@ pub fn hour_of(e: u64, weight: u32, left: u64, divisor: u64) -> Turn
     requires { Turning e weight left divisor }
     ensures { Turned e weight left divisor result.wh result.left }
 {
-    let t = left + e * wide(weight);
+    let t = left + e * u64::from(weight);
     let wh = (t / divisor) as u32;
     let rest = t % divisor;
     Turn { wh: wh, left: rest }
@@ -86,11 +75,9 @@ pub fn add(s: Spread, part: &[u32], skip: usize, skipped: u64, out: &mut [u64])
 {
     let divisor = divisor_of(s.whole);
     let mut left = product_mod(s.e_wh, s.before + skipped, divisor);
-    let mut i = 0;
-    while i < out.len() {
+    for i in 0..out.len() {
         let t = hour_of(s.e_wh, part[skip + i], left, divisor);
-        out[i] = out[i] + wide(t.wh);
+        out[i] += u64::from(t.wh);
         left = t.left;
-        i += 1;
     }
 }

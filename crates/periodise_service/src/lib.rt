@@ -10,7 +10,7 @@ ghost use Rattle.periodise_service.specs.Promised.{Promised};
 ghost use Rattle.rules.specs.Periodised.{periodised_figure};
 ghost use Rattle.rules.specs.Words.{figures, at};
 
-use answer::{Answer, Refusal};
+use answer::{Refusal, Refused};
 
 // The growths of a reading whose hours all stand here. `periodise::add` goes the same way hour by hour; its figures are added as ones of 64 bits, these are
 // written as ones of 32.
@@ -21,57 +21,49 @@ fn spread(e: u64, s: u64, weights: &[u32], out: &mut [u32])
 {
     let divisor = periodise::divisor_of(s);
     let mut left = 0;
-    let mut i = 0;
-    while i < weights.len() {
+    for i in 0..weights.len() {
         let t = periodise::hour_of(e, weights[i], left, divisor);
         out[i] = t.wh;
         left = t.left;
-        i += 1;
     }
 }
 
 // "E positive and S zero" is refused.
-fn followed_by(e: u64, s: u64) -> Answer
+fn followed_by(e: u64, s: u64) -> Result<(), Refused>
     ensures { said result ≡ follow_check e s }
 {
     if e == 0 {
-        return Answer::Done;
+        return Ok(());
     }
     if 1 <= s {
-        return Answer::Done;
+        return Ok(());
     }
-    Answer::Refused(Refusal::NothingToFollow, 0)
+    Err(Refused(Refusal::NothingToFollow, 0))
 }
 
 // The service. "periodisation 11, 12, 10, 13 (all at place 0 but 10)", after 16.
-pub fn periodisation(e: u64, weights: &[u32], out: &mut [u32]) -> Answer
+pub fn periodisation(e: u64, weights: &[u32], out: &mut [u32]) -> Result<(), Refused>
     ensures { Promised e weights.now out.old result out.new }
 {
     if out.len() != weights.len() {
-        return Answer::Refused(Refusal::WrongLength, 0);
+        return Err(Refused(Refusal::WrongLength, 0));
     }
     if weights.len() < 1 {
-        return Answer::Refused(Refusal::SpanFault, 0);
+        return Err(Refused(Refusal::SpanFault, 0));
     }
     if limits::MOST_WEIGHTS < weights.len() {
-        return Answer::Refused(Refusal::SpanFault, 0);
+        return Err(Refused(Refusal::SpanFault, 0));
     }
     if (limits::GREATEST_ENERGY_WH as u64) < e {
-        return Answer::Refused(Refusal::EnergyTooLarge, 0);
+        return Err(Refused(Refusal::EnergyTooLarge, 0));
     }
-    let each = answer::each_at_most_u32(
+    answer::each_at_most(
         weights,
-        limits::GREATEST_CURVE_NUMBER,
+        u64::from(limits::GREATEST_CURVE_NUMBER),
         Refusal::CurveTooLarge,
-    );
-    let Answer::Done = each else {
-        return each;
-    };
+    )?;
     let s = periodise::total(weights);
-    let followed = followed_by(e, s);
-    let Answer::Done = followed else {
-        return followed;
-    };
+    followed_by(e, s)?;
     spread(e, s, weights, out);
-    Answer::Done
+    Ok(())
 }

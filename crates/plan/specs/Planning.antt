@@ -1,7 +1,5 @@
 -- What makes the records takes and gives: the reading without its parties and E, and its records as the code has them.
 use Rattle.std.specs.Prelude.{cond, List, [], ◌≡◌, ℕ, ltb, length, replicate}
-use Rattle.answer.specs.declared.Answer.{Answer}
-use Rattle.plan.specs.declared.Planned.{Planned}
 use Rattle.plan_checks.specs.Handed.{handed}
 use Rattle.record.specs.declared.Over.TheVariants.{ThisMonth, ManyMonths}
 use Rattle.record.specs.declared.Reading.{Reading}
@@ -32,9 +30,3 @@ record_of r k =
 -- THE PLAN: those of the months, and no reading behind them
 unfoldable pub entry_of : LongReading → ℕ → Reading
 entry_of r k = cond (ltb k (month_count r)) (record_of r k) no_reading
-
--- nothing planned, with this answer
-pub record Nothing (a : Answer) (p : Planned) : Type 0 where
-  pub answer : p.answer ≡ a
-  pub no_months : p.months ≡ 0
-  pub no_records : p.records ≡ replicate most_months no_reading

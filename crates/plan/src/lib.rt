@@ -4,24 +4,20 @@
 #![tactic(auto)]
 
 ghost use Rattle.std.specs.Prelude.{◌≡◌};
-ghost use Rattle.answer.specs.declared.Answer.TheVariants.{Refused};
-ghost use Rattle.plan.specs.Planning.{of_all, no_reading, MakingAsked, Nothing};
-ghost use Rattle.plan.specs.Promised.{PlannedUnder, Promised};
+ghost use Rattle.plan.specs.Planning.{of_all, no_reading, MakingAsked};
+ghost use Rattle.plan.specs.Promised.{RecordsOf, Promised};
 ghost use Rattle.plan_checks.specs.Handed.{handed};
 ghost use Rattle.rules.proofs.Plan.{Weighed};
 ghost use Rattle.rules.specs.Month.{follows_whole};
 ghost use Rattle.rules.specs.Plan.{planned_whole};
-ghost use Rattle.rules.specs.Refusals.{accepted};
 
-use answer::{Answer, Refusal};
-use plan_checks::{part_from, part_to, reading_hours, wide};
+use answer::{Refusal, Refused};
+use plan_checks::{part_from, part_to, reading_hours};
 use record::{Over, Reading};
 
-// What the planner gives: its answer, and the records of the reading, one for each of its months: the first so many of thirteen. Behind them, and where it
-// refuses, stands no reading.
+// What the planner gives: the records of the reading, one for each of its months: the first so many of thirteen. Behind them stands no reading.
 #[derive(Clone, Copy)]
 pub struct Planned {
-    pub answer: Answer,
     pub months: usize,
     pub records: [Reading; 13],
 }
@@ -31,7 +27,7 @@ fn whole_weight(a: u16, b: u16, hours: &[u16], curves: &[u32]) -> u64
     requires { Weighed (of_all a b hours.now curves.now) }
     ensures { result ≡ planned_whole (of_all a b hours.now curves.now) }
 {
-    let start = wide(a);
+    let start = usize::from(a);
     let end = start + reading_hours(a, b, hours);
     periodise::total(&curves[start..end])
 }
@@ -67,14 +63,13 @@ fn make(
     whole: u64,
 ) -> Planned
     requires { MakingAsked (handed e_wh a b parties.now hours.now curves.now) whole }
-    ensures { PlannedUnder accepted (handed e_wh a b parties.now hours.now curves.now) result }
+    ensures { RecordsOf (handed e_wh a b parties.now hours.now curves.now) result }
 {
     let none = no_reading();
     let mut records = [none; 13];
     let mut before = 0;
     let mut start = 0;
-    let mut k = 0;
-    while k < hours.len() {
+    for k in 0..hours.len() {
         let from = part_from(k, a);
         let to = part_to(k, b, hours);
         records[k] = Reading {
@@ -84,40 +79,30 @@ fn make(
             e_wh: e_wh,
             over: Over::ManyMonths(before, whole),
         };
-        before += periodise::total(&curves[start + wide(from)..start + wide(to)]);
-        start += wide(hours[k]);
-        k += 1;
+        before += periodise::total(&curves[start + usize::from(from)..start + usize::from(to)]);
+        start += usize::from(hours[k]);
     }
     Planned {
-        answer: Answer::Done,
         months: hours.len(),
         records: records,
     }
 }
 
-// A refusal, and no reading.
-fn refused(refusal: Refusal, place: usize) -> Planned
-    ensures { Nothing (Refused refusal place) result }
-{
-    let none = no_reading();
-    Planned {
-        answer: Answer::Refused(refusal, place),
-        months: 0,
-        records: [none; 13],
-    }
-}
-
 // THE PLANNER. Refuses, all at place 0: 4, 11, 12, 10, and 13 where there is energy and no weight to follow.
-pub fn plan(e_wh: u64, a: u16, b: u16, parties: &[u8], hours: &[u16], curves: &[u32]) -> Planned
+pub fn plan(
+    e_wh: u64,
+    a: u16,
+    b: u16,
+    parties: &[u8],
+    hours: &[u16],
+    curves: &[u32],
+) -> Result<Planned, Refused>
     ensures { Promised (handed e_wh a b parties.now hours.now curves.now) result }
 {
-    let fit = plan_checks::handed_fits(e_wh, a, b, parties, hours, curves);
-    if let Answer::Refused(x, place) = fit {
-        return refused(x, place);
-    }
+    plan_checks::handed_fits(e_wh, a, b, parties, hours, curves)?;
     let whole = whole_weight(a, b, hours, curves);
     if !follows(e_wh, whole) {
-        return refused(Refusal::NothingToFollow, 0);
+        return Err(Refused(Refusal::NothingToFollow, 0));
     }
-    make(e_wh as u32, a, b, parties, hours, curves, whole)
+    Ok(make(e_wh as u32, a, b, parties, hours, curves, whole))
 }

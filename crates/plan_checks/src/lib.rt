@@ -11,13 +11,7 @@ ghost use Rattle.rules.specs.Plan.{list_checks, span_checks, handed_checks};
 ghost use Rattle.rules.specs.Refusals.{first, in_turn};
 ghost use Rattle.rules.specs.Words.{within};
 
-use answer::{Answer, Refusal};
-
-pub fn wide(hours: u16) -> usize
-    ensures { (result ≡ hours) × (result ≤ 65535) }
-{
-    hours as usize
-}
+use answer::{Refusal, Refused};
 
 // The reading's first hour in a month: "a of the first month", and of every other month its first.
 pub fn part_from(k: usize, a: u16) -> u16
@@ -48,32 +42,27 @@ fn shaped(parties: usize, months: usize) -> bool
 }
 
 // "of 1 to 745 hours"
-fn each_month(hours: &[u16]) -> Answer
+fn each_month(hours: &[u16]) -> Result<(), Refused>
     ensures { said result ≡ in_turn (length hours.now) (hours_verdict (of_span 0 0 hours.now)) }
 {
-    let mut k = 0;
-    while k < hours.len() {
-        let h = hours[k];
-        if !((1 <= h) & (h <= record::MOST_HOURS)) {
-            return Answer::Refused(Refusal::OutOfRange, 0);
+    for h in hours {
+        if !((1 <= *h) & (*h <= record::MOST_HOURS)) {
+            return Err(Refused(Refusal::OutOfRange, 0));
         }
-        k += 1;
     }
-    Answer::Done
+    Ok(())
 }
 
 // A party is below 64, as in a record alone.
-fn each_party(parties: &[u8]) -> Answer
+fn each_party(parties: &[u8]) -> Result<(), Refused>
     ensures { said result ≡ in_turn (length parties.now) (party_verdict (of_parties parties.now)) }
 {
-    let mut k = 0;
-    while k < parties.len() {
-        if !(parties[k] < record::MOST_PARTIES) {
-            return Answer::Refused(Refusal::OutOfRange, 0);
+    for party in parties {
+        if record::MOST_PARTIES <= *party {
+            return Err(Refused(Refusal::OutOfRange, 0));
         }
-        k += 1;
     }
-    Answer::Done
+    Ok(())
 }
 
 // The hours of all months together.
@@ -82,45 +71,38 @@ fn all_hours(hours: &[u16]) -> usize
     ensures { result ≡ month_start (of_span 0 0 hours.now) (length hours.now) }
 {
     let mut sum = 0;
-    let mut k = 0;
-    while k < hours.len() {
-        sum += wide(hours[k]);
-        k += 1;
+    for h in hours {
+        sum += usize::from(*h);
     }
     sum
 }
 
 // 4: the lists belong together, and each of their numbers is within its range.
-fn lists_fit(parties: &[u8], hours: &[u16], curves: &[u32]) -> Answer
+fn lists_fit(parties: &[u8], hours: &[u16], curves: &[u32]) -> Result<(), Refused>
     ensures { said result ≡ first (list_checks (handed 0 0 0 parties.now hours.now curves.now)) }
 {
     if !shaped(parties.len(), hours.len()) {
-        return Answer::Refused(Refusal::OutOfRange, 0);
+        return Err(Refused(Refusal::OutOfRange, 0));
     }
-    let months = each_month(hours);
-    let Answer::Done = months else {
-        return months;
-    };
+    each_month(hours)?;
     if curves.len() != all_hours(hours) {
-        return Answer::Refused(Refusal::OutOfRange, 0);
+        return Err(Refused(Refusal::OutOfRange, 0));
     }
     each_party(parties)
 }
 
 // "with an empty part in a month is 11"
-fn each_part(a: u16, b: u16, hours: &[u16]) -> Answer
+fn each_part(a: u16, b: u16, hours: &[u16]) -> Result<(), Refused>
     ensures { said result ≡ in_turn (length hours.now) (part_verdict (of_span a b hours.now)) }
 {
-    let mut k = 0;
-    while k < hours.len() {
+    for k in 0..hours.len() {
         let from = part_from(k, a);
         let to = part_to(k, b, hours);
         if !((from < to) & (to <= hours[k])) {
-            return Answer::Refused(Refusal::SpanFault, 0);
+            return Err(Refused(Refusal::SpanFault, 0));
         }
-        k += 1;
     }
-    Answer::Done
+    Ok(())
 }
 
 // The hours of the reading, over all its months.
@@ -129,44 +111,39 @@ pub fn reading_hours(a: u16, b: u16, hours: &[u16]) -> usize
     ensures { result ≡ reading_hours (of_span a b hours.now) }
 {
     let mut sum = 0;
-    let mut k = 0;
-    while k < hours.len() {
+    for k in 0..hours.len() {
         let from = part_from(k, a);
         let to = part_to(k, b, hours);
-        sum += wide(to - from);
-        k += 1;
+        sum += usize::from(to - from);
     }
     sum
 }
 
 // 11: "a reading over 8,784 hours or with an empty part in a month"
-fn span_fits(a: u16, b: u16, hours: &[u16]) -> Answer
+fn span_fits(a: u16, b: u16, hours: &[u16]) -> Result<(), Refused>
     requires { length hours.now ≤ most_months }
     ensures { said result ≡ first (span_checks (of_span a b hours.now)) }
 {
-    let parts = each_part(a, b, hours);
-    let Answer::Done = parts else {
-        return parts;
-    };
+    each_part(a, b, hours)?;
     if limits::MOST_WEIGHTS < reading_hours(a, b, hours) {
-        return Answer::Refused(Refusal::SpanFault, 0);
+        return Err(Refused(Refusal::SpanFault, 0));
     }
-    Answer::Done
+    Ok(())
 }
 
 // 10 of all curves handed in: unlike the periodisation's it has no place.
-fn curves_fit(curves: &[u32]) -> Answer
+fn curves_fit(curves: &[u32]) -> Result<(), Refused>
     ensures { said result ≡ in_turn (length curves.now) (weight_verdict (of_curves curves.now)) }
 {
-    let each = answer::each_at_most_u32(
+    let each = answer::each_at_most(
         curves,
-        limits::GREATEST_CURVE_NUMBER,
+        u64::from(limits::GREATEST_CURVE_NUMBER),
         Refusal::CurveTooLarge,
     );
-    let Answer::Done = each else {
-        return Answer::Refused(Refusal::CurveTooLarge, 0);
+    let Ok(()) = each else {
+        return Err(Refused(Refusal::CurveTooLarge, 0));
     };
-    Answer::Done
+    Ok(())
 }
 
 // "is 4; .. is 11; then 12, 10": all but 13.
@@ -177,19 +154,13 @@ pub fn handed_fits(
     parties: &[u8],
     hours: &[u16],
     curves: &[u32],
-) -> Answer
+) -> Result<(), Refused>
     ensures { said result ≡ first (handed_checks (handed e_wh a b parties.now hours.now curves.now)) }
 {
-    let lists = lists_fit(parties, hours, curves);
-    let Answer::Done = lists else {
-        return lists;
-    };
-    let span = span_fits(a, b, hours);
-    let Answer::Done = span else {
-        return span;
-    };
+    lists_fit(parties, hours, curves)?;
+    span_fits(a, b, hours)?;
     if (limits::GREATEST_ENERGY_WH as u64) < e_wh {
-        return Answer::Refused(Refusal::EnergyTooLarge, 0);
+        return Err(Refused(Refusal::EnergyTooLarge, 0));
     }
     curves_fit(curves)
 }

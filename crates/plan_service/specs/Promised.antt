@@ -1,7 +1,7 @@
 -- THE PROMISE of `plan`, of its answer and the four lent lists: its `ensures` cites it, and so does what is proved of every service (`every_service`).
-use Rattle.std.specs.Prelude.{List, ◌≡◌, ℕ, length}
+use Rattle.std.specs.Prelude.{List, ◌≡◌, ℕ, length, Result, ⊤}
 use Rattle.answer.specs.Said.{said}
-use Rattle.answer.specs.declared.Answer.{Answer}
+use Rattle.answer.specs.declared.Refused.{Refused}
 use Rattle.rules.specs.Plan.{LongReading, month_count, part_from, part_to, planned_before, planned_whole, lent_plan_checks}
 use Rattle.rules.specs.Refusals.{Verdict, first, afterwards}
 use Rattle.rules.specs.Words.{figures}
@@ -14,7 +14,7 @@ plan_verdict r from to before whole = first (lent_plan_checks r (length from) (l
 abbrev pub whole_of_each : LongReading → ℕ → ℕ
 whole_of_each r k = planned_whole r
 
-pub record Promised (r : LongReading) (from to before whole : List ℕ) (a : Answer) (from' to' before' whole' : List ℕ) : Type 0 where
+pub record Promised (r : LongReading) (from to before whole : List ℕ) (a : Result ⊤ Refused) (from' to' before' whole' : List ℕ) : Type 0 where
   pub answer : said a ≡ plan_verdict r from to before whole
   pub holds_from : from' ≡ afterwards (said a) (figures (month_count r) (part_from r)) from
   pub holds_to : to' ≡ afterwards (said a) (figures (month_count r) (part_to r)) to

@@ -9,7 +9,7 @@ ghost use Rattle.plan_service.specs.Promised.{Promised};
 ghost use Rattle.record.specs.Record.{over_of};
 ghost use Rattle.rules.specs.Month.{weight_before, whole_weight};
 
-use answer::{Answer, Refusal};
+use answer::{Refusal, Refused};
 use plan::Planned;
 use record::Over;
 
@@ -52,15 +52,13 @@ fn put_records(
 {
     let records = p.records;
     let months = p.months;
-    let mut k = 0;
-    while k < months {
+    for k in 0..months {
         let x = records[k];
         let over = x.over;
         out_a[k] = x.a;
         out_b[k] = x.b;
         out_before[k] = before_of(over);
         out_whole[k] = whole_of(over);
-        k += 1;
     }
 }
 
@@ -76,7 +74,7 @@ pub fn plan(
     out_b: &mut [u16],
     out_before: &mut [u64],
     out_whole: &mut [u64],
-) -> Answer
+) -> Result<(), Refused>
     ensures { Promised (handed e_wh a b parties.now hours.now curves.now)
         out_a.old out_b.old out_before.old out_whole.old
         result out_a.new out_b.new out_before.new out_whole.new }
@@ -88,13 +86,9 @@ pub fn plan(
         out_before.len(),
         out_whole.len(),
     ) {
-        return Answer::Refused(Refusal::WrongLength, 0);
+        return Err(Refused(Refusal::WrongLength, 0));
     }
-    let p = plan::plan(e_wh, a, b, parties, hours, curves);
-    let answered = p.answer;
-    let Answer::Done = answered else {
-        return answered;
-    };
+    let p = plan::plan(e_wh, a, b, parties, hours, curves)?;
     put_records(p, out_a, out_b, out_before, out_whole);
-    Answer::Done
+    Ok(())
 }

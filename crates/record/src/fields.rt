@@ -3,12 +3,6 @@ ghost use Rattle.std.specs.Prelude.{◌≡◌, ◌+◌, ◌≤◌, ◌<◌, ◌^
 ghost use Rattle.record.specs.Fields.{complemented};
 ghost use Rattle.rules.specs.Record.{number_onto};
 
-fn wide(byte: u8) -> u64
-    ensures { (result ≡ byte) × (result < 256) }
-{
-    byte as u64
-}
-
 // The number in `width` bytes from a place on, the first counting most.
 pub fn number_at(s: &[u8], at: usize, width: usize) -> u64
     requires { (at + width ≤ length s.now) × (width ≤ 8) }
@@ -16,10 +10,8 @@ pub fn number_at(s: &[u8], at: usize, width: usize) -> u64
     ensures bound { result < 256 ^ width }
 {
     let mut number: u64 = 0;
-    let mut k: usize = 0;
-    while k < width {
-        number = number * 256 + wide(s[at + k]);
-        k += 1;
+    for k in 0..width {
+        number = number * 256 + u64::from(s[at + k]);
     }
     number
 }

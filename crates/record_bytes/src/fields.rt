@@ -22,9 +22,7 @@ pub fn put_number(d: &mut [u8], at: usize, width: usize, value: u64)
     ensures { d.new ≡ sets d.old at (bytes_of width value) }
 {
     let mut left = value;
-    let mut k = width;
-    while 0 < k {
-        k -= 1;
+    for k in (0..width).rev() {
         d[at + k] = (left % 256) as u8;
         left /= 256;
     }
@@ -36,12 +34,9 @@ pub fn put_all(d: &mut [u8], widths: &[usize], values: &[u64])
     ensures { d.new ≡ sets d.old 0 (glue widths.now values.now) }
 {
     let mut at: usize = 0;
-    let mut i: usize = 0;
-    while i < widths.len() {
-        let width = widths[i];
-        put_number(d, at, width, values[i]);
-        at += width;
-        i += 1;
+    for (i, width) in widths.iter().enumerate() {
+        put_number(d, at, *width, values[i]);
+        at += *width;
     }
 }
 
@@ -50,9 +45,6 @@ pub fn put_bytes(d: &mut [u8], at: usize, bytes: &[u8])
     requires { at + length bytes.now ≤ length d.old }
     ensures { d.new ≡ sets d.old at bytes.now }
 {
-    let mut i: usize = 0;
-    while i < bytes.len() {
-        d[at + i] = bytes[i];
-        i += 1;
-    }
+    let end = at + bytes.len();
+    d[at..end].copy_from_slice(bytes);
 }

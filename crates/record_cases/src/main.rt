@@ -2,11 +2,8 @@
 // a net supply of -8,000,000,000 Wh there and back, and a party with its BRP (02, W5). One line for each.
 #![tactic(auto)]
 
-use answer::Refusal;
-use gln::Gln;
+use answer::Refused;
 use record::{Brp, Flows, Heading, Over, Reading, Record};
-use record_rule::Read;
-use record_write::Written;
 use std::io;
 
 // The kinds as the plain entry takes them.
@@ -24,8 +21,9 @@ const LONG_READING: u64 = record::kind::LONG_READING as u64;
 
 const BRP_PARTY: u64 = record::kind::BRP_PARTY as u64;
 
-fn refused(rt: &impl Print, x: Refusal, place: usize) -> io::Result<()> {
-    let number = answer::number(x);
+fn refused(rt: &impl Print, refused: Refused) -> io::Result<()> {
+    let Refused(refusal, place) = refused;
+    let number = refusal.number();
     println!(rt; "{number} at {place}")
 }
 
@@ -90,30 +88,28 @@ fn kind(rt: &impl Print, r: Record, part: &[u8]) -> io::Result<()> {
 }
 
 fn gln_case(rt: &impl Print, part: &[u8]) -> io::Result<()> {
-    let g = gln::check(part);
-    match g {
-        Gln::Valid(n) => println!(rt; "gln {n}"),
-        Gln::Invalid => println!(rt; "gln none"),
+    match gln::check(part) {
+        Some(n) => println!(rt; "gln {n}"),
+        None => println!(rt; "gln none"),
     }
 }
 
 fn read_case(rt: &impl Print, part: &[u8]) -> io::Result<()> {
     print!(rt; "read ")?;
-    let r = record_rule::read_alone(part);
-    match r {
-        Read::Given(x) => kind(rt, x, part),
-        Read::Refused(x, place) => refused(rt, x, place),
+    match record_rule::read_alone(part) {
+        Ok(r) => kind(rt, r, part),
+        Err(x) => refused(rt, x),
     }
 }
 
 // What the writer told, and what then stands in the part.
-fn written(rt: &impl Print, w: Written, part: &[u8]) -> io::Result<()> {
+fn written(rt: &impl Print, w: Result<usize, Refused>, part: &[u8]) -> io::Result<()> {
     match w {
-        Written::Bytes(n) => {
+        Ok(n) => {
             print!(rt; "{n} bytes, ")?;
             read_case(rt, part)
         }
-        Written::Refused(x, place) => refused(rt, x, place),
+        Err(x) => refused(rt, x),
     }
 }
 

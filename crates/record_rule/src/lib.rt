@@ -6,19 +6,19 @@ mod rule;
 
 ghost use Rattle.record_rule.specs.Promised.{FaultPromised, PartFaultPromised, ReadAlonePromised};
 
-use answer::{Answer, Refusal};
+use answer::{Refusal, Refused};
 use record::{MOST_HOURS, MOST_PARTIES, Record};
-
-// What reading one record gives.
-#[derive(Clone, Copy)]
-pub enum Read {
-    Given(Record),
-    Refused(Refusal, usize),
-}
 
 // THE RULE OF A RECORD'S FIELDS, 4, 5, 11, 12 in that order, kind by kind, for a file of so many hours and parties, at a place. The bytes of a party's GLN
 // and of its BRP's stand beside it; of another kind they are not looked at.
-pub fn fault(r: Record, gln: &[u8], brp_gln: &[u8], hours: u16, parties: u8, place: usize) -> Answer
+pub fn fault(
+    r: Record,
+    gln: &[u8],
+    brp_gln: &[u8],
+    hours: u16,
+    parties: u8,
+    place: usize,
+) -> Result<(), Refused>
     ensures { FaultPromised r gln.now brp_gln.now hours parties place result }
 {
     match r {
@@ -40,12 +40,18 @@ pub fn fault(r: Record, gln: &[u8], brp_gln: &[u8], hours: u16, parties: u8, pla
             Refusal::OutOfRange,
             place,
         ),
-        Record::End(_) => Answer::Done,
+        Record::End(_) => Ok(()),
     }
 }
 
 // The same of the record that stands at the start of a part: a party's GLNs are looked for where they stand, and of another kind nothing is.
-pub fn fault_of_part(r: Record, part: &[u8], hours: u16, parties: u8, place: usize) -> Answer
+pub fn fault_of_part(
+    r: Record,
+    part: &[u8],
+    hours: u16,
+    parties: u8,
+    place: usize,
+) -> Result<(), Refused>
     ensures { PartFaultPromised r part.now hours parties place result }
 {
     match r {
@@ -63,23 +69,20 @@ pub fn fault_of_part(r: Record, part: &[u8], hours: u16, parties: u8, place: usi
 }
 
 // "One record can also be read alone, by 2, 1 and then the same rules (an empty part is 1); bytes after it are not looked at."
-pub fn read_alone(part: &[u8]) -> Read
+pub fn read_alone(part: &[u8]) -> Result<Record, Refused>
     ensures { ReadAlonePromised part.now result }
 {
     if part.len() < 1 {
-        return Read::Refused(Refusal::FileFault, 0);
+        return Err(Refused(Refusal::FileFault, 0));
     }
     let body = record::body_length(part[0]);
     if body < 1 {
-        return Read::Refused(Refusal::UnknownKind, 0);
+        return Err(Refused(Refusal::UnknownKind, 0));
     }
     if part.len() - 1 < body {
-        return Read::Refused(Refusal::FileFault, 0);
+        return Err(Refused(Refusal::FileFault, 0));
     }
     let r = record::decode(part);
-    let a = fault_of_part(r, part, MOST_HOURS, MOST_PARTIES, 0);
-    match a {
-        Answer::Done => Read::Given(r),
-        Answer::Refused(x, place) => Read::Refused(x, place),
-    }
+    fault_of_part(r, part, MOST_HOURS, MOST_PARTIES, 0)?;
+    Ok(r)
 }

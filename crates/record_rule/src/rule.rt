@@ -10,8 +10,7 @@ ghost use Rattle.rules.specs.Gln.{valid_gln};
 ghost use Rattle.rules.specs.Limits.{greatest_flow, greatest_price};
 ghost use Rattle.rules.specs.Record.{heading_in_range, hour_in_range};
 
-use answer::{Answer, Refusal};
-use gln::Gln;
+use answer::{Refusal, Refused};
 use record::{Brp, Flows, Heading, MOST_HOURS, MOST_PARTIES, Reading, Record};
 
 // The ends of the signed ranges.
@@ -22,13 +21,13 @@ const LEAST_NET_WH: i64 = -GREATEST_NET_WH;
 const LEAST_PRICE_ORE: i64 = -limits::GREATEST_PRICE_ORE;
 
 // Accepted where a test holds, and else refused.
-pub fn unless(test: bool, refusal: Refusal, place: usize) -> Answer
+pub fn unless(test: bool, refusal: Refusal, place: usize) -> Result<(), Refused>
     ensures { said result ≡ unless test (named refusal) place }
 {
     if test {
-        return Answer::Done;
+        return Ok(());
     }
-    Answer::Refused(refusal, place)
+    Err(Refused(refusal, place))
 }
 
 // "Area 1..999. Year 2000..2099. Month 1..12. H 1..745. P 1..64; loss carrier .. below P."
@@ -58,14 +57,7 @@ pub fn price_in_range(hours: u16, hour: u16, z: i64) -> bool
     (hour < hours) & ((LEAST_PRICE_ORE <= z) & (z <= limits::GREATEST_PRICE_ORE))
 }
 
-// "With status 0 a figure other than 0 is refused with 4": a figure of 0 is the only one that is neither above nor below it.
-fn is_zero(z: i64) -> bool
-    ensures { result ≡ eqb (nat_abs z) 0 }
-{
-    (0 <= z) & (z <= 0)
-}
-
-// An hour's status and flows.
+// An hour's status and flows. "With status 0 a figure other than 0 is refused with 4"
 fn flows_in_range(f: Flows) -> bool
     ensures { result ≡ flows_in_range (flows_of f) && silent_is_zero (flows_of f) }
 {
@@ -74,7 +66,7 @@ fn flows_in_range(f: Flows) -> bool
         & (f.production_wh <= limits::GREATEST_FLOW_WH)
         & (f.hourly_wh <= limits::GREATEST_FLOW_WH)
         & (f.flex_wh <= limits::GREATEST_FLOW_WH);
-    let silent = is_zero(f.net_wh) & (f.production_wh == 0) & (f.hourly_wh == 0) & (f.flex_wh == 0);
+    let silent = (f.net_wh == 0) & (f.production_wh == 0) & (f.hourly_wh == 0) & (f.flex_wh == 0);
     range & ((limits::MEASURED <= f.status) | silent)
 }
 
@@ -89,43 +81,46 @@ pub fn hour_in_range(hours: u16, hour: u16, f: Flows) -> bool
 fn gln_valid(gln: &[u8]) -> bool
     ensures { result ≡ valid_gln gln.now }
 {
-    match gln::check(gln) {
-        Gln::Valid(_) => true,
-        Gln::Invalid => false,
-    }
+    gln::check(gln).is_some()
 }
 
 // 4 and 5 of a party: "Load share 0..4,000,000,000", then "GLN not digits, wrong check digit"; W5: "a bad BRP GLN is 5".
-pub fn party_fault(brp: Brp, share: u64, gln: &[u8], brp_gln: &[u8], place: usize) -> Answer
+pub fn party_fault(
+    brp: Brp,
+    share: u64,
+    gln: &[u8],
+    brp_gln: &[u8],
+    place: usize,
+) -> Result<(), Refused>
     ensures { said result ≡ fault_of 0 0 (glns gln.now brp_gln.now) (Record.Party brp share) place }
 {
     if limits::GREATEST_SHARE_KWH < share {
-        return Answer::Refused(Refusal::OutOfRange, place);
+        return Err(Refused(Refusal::OutOfRange, place));
     }
     if !gln_valid(gln) {
-        return Answer::Refused(Refusal::GlnFault, place);
+        return Err(Refused(Refusal::GlnFault, place));
     }
     match brp {
-        Brp::Own => Answer::Done,
+        Brp::Own => Ok(()),
         Brp::Named => unless(gln_valid(brp_gln), Refusal::GlnFault, place),
     }
 }
 
 // 4, 11 and 12 of a reading: "a reading's party below P", "a not below b, b above H", "E too large"
-pub fn reading_fault(r: Reading, hours: u16, parties: u8, place: usize) -> Answer
+pub fn reading_fault(r: Reading, hours: u16, parties: u8, place: usize) -> Result<(), Refused>
     ensures { said result ≡ fault_of hours parties no_glns (Record.Reading r) place }
 {
     if parties <= r.party {
-        return Answer::Refused(Refusal::OutOfRange, place);
+        return Err(Refused(Refusal::OutOfRange, place));
     }
     if r.b <= r.a {
-        return Answer::Refused(Refusal::SpanFault, place);
+        return Err(Refused(Refusal::SpanFault, place));
     }
     if hours < r.b {
-        return Answer::Refused(Refusal::SpanFault, place);
+        return Err(Refused(Refusal::SpanFault, place));
     }
     if limits::GREATEST_ENERGY_WH < r.e_wh {
-        return Answer::Refused(Refusal::EnergyTooLarge, place);
+        return Err(Refused(Refusal::EnergyTooLarge, place));
     }
-    Answer::Done
+    Ok(())
 }

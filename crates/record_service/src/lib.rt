@@ -7,9 +7,8 @@ ghost use Rattle.record_service.specs.Held.{field_count, signed_place, signs_fro
 ghost use Rattle.record_service.specs.Plain.{Promised};
 ghost use Rattle.rules.specs.Record.{known};
 
-use answer::Refusal;
+use answer::{Refusal, Refused};
 use record::{Brp, Flows, Heading, Over, Reading, Record, kind};
-use record_write::Written;
 
 // Where no number of a kind may be negative: past the last place of the longest list.
 const NOWHERE: usize = 6;
@@ -44,23 +43,15 @@ fn signed_place(sort: u8) -> usize
     }
 }
 
-fn not_negative(z: i64) -> bool
-    ensures { result ≡ le_z (pos 0) z }
-{
-    0 <= z
-}
-
 // No number is negative but the one that may be.
 fn signs_right(numbers: &[i64], signed: usize) -> bool
     ensures { result ≡ signs_from signed 0 numbers.now }
 {
-    let mut i: usize = 0;
-    while i < numbers.len() {
-        let right = (i == signed) | not_negative(numbers[i]);
+    for (i, number) in numbers.iter().enumerate() {
+        let right = (i == signed) | (0 <= *number);
         if !right {
             return false;
         }
-        i += 1;
     }
     true
 }
@@ -222,18 +213,18 @@ pub fn write_plain(
     gln: &[u8],
     brp_gln: &[u8],
     out: &mut [u8],
-) -> Written
+) -> Result<usize, Refused>
     ensures { Promised kind numbers.now gln.now brp_gln.now out.old result out.new }
 {
     if 255 < kind {
-        return Written::Refused(Refusal::UnknownKind, 0);
+        return Err(Refused(Refusal::UnknownKind, 0));
     }
     let sort = kind as u8;
     if record::body_length(sort) < 1 {
-        return Written::Refused(Refusal::UnknownKind, 0);
+        return Err(Refused(Refusal::UnknownKind, 0));
     }
     if !list_right(sort, numbers) {
-        return Written::Refused(Refusal::OutOfRange, 0);
+        return Err(Refused(Refusal::OutOfRange, 0));
     }
     let r = record_of(sort, numbers);
     record_write::write(r, gln, brp_gln, out)

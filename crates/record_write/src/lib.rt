@@ -9,15 +9,8 @@ ghost use Rattle.record_write.specs.Writing.{kind_of, Writable, RoomPromised, Pr
 ghost use Rattle.rules.specs.Record.{reading, body_length, reading_kind_of, record_bytes, alone, checks};
 ghost use Rattle.rules.specs.Refusals.{accepted, first};
 
-use answer::{Answer, Refusal};
+use answer::{Refusal, Refused};
 use record::{Brp, MOST_HOURS, MOST_PARTIES, Over, Reading, Record, kind};
-
-// What writing one record gives: the number of bytes, or the refusal.
-#[derive(Clone, Copy)]
-pub enum Written {
-    Bytes(usize),
-    Refused(Refusal, usize),
-}
 
 // A reading's kind byte, by what it lies over.
 fn reading_kind(x: Reading) -> u8
@@ -85,26 +78,23 @@ fn encode(r: Record, gln: &[u8], brp_gln: &[u8], out: &mut [u8])
 }
 
 // 16, "record writer: too short", of a record that has no fault; else "kind and body at its start, nothing further on touched, and the number of bytes".
-fn put_record(r: Record, gln: &[u8], brp_gln: &[u8], out: &mut [u8]) -> Written
+fn put_record(r: Record, gln: &[u8], brp_gln: &[u8], out: &mut [u8]) -> Result<usize, Refused>
     requires { first (checks alone (record_of (glns gln.now brp_gln.now) r)) ≡ accepted }
     ensures { RoomPromised r gln.now brp_gln.now out.old result out.new }
 {
     let n = 1 + record::body_length(kind_of(r));
     if out.len() < n {
-        return Written::Refused(Refusal::WrongLength, 0);
+        return Err(Refused(Refusal::WrongLength, 0));
     }
     encode(r, gln, brp_gln, out);
-    Written::Bytes(n)
+    Ok(n)
 }
 
 // "The record writer takes one record's fields and a lent part": 4, 5, 11, 12, then 16. The bytes of a party's GLN and of its BRP's stand beside it; of another
 // kind they are not looked at.
-pub fn write(r: Record, gln: &[u8], brp_gln: &[u8], out: &mut [u8]) -> Written
+pub fn write(r: Record, gln: &[u8], brp_gln: &[u8], out: &mut [u8]) -> Result<usize, Refused>
     ensures { Promised r gln.now brp_gln.now out.old result out.new }
 {
-    let a = record_rule::fault(r, gln, brp_gln, MOST_HOURS, MOST_PARTIES, 0);
-    match a {
-        Answer::Done => put_record(r, gln, brp_gln, out),
-        Answer::Refused(x, place) => Written::Refused(x, place),
-    }
+    record_rule::fault(r, gln, brp_gln, MOST_HOURS, MOST_PARTIES, 0)?;
+    put_record(r, gln, brp_gln, out)
 }

@@ -34,24 +34,10 @@ fn distances_of(extra: &[u64; 64], remainder: &[u64; 64], n: usize, w: u64) -> [
     ensures { Filled (pos 0) (distance_by extra.now remainder.now w) n result }
 {
     let mut here = [0i64; 64];
-    let mut i = 0;
-    while i < n {
+    for i in 0..n {
         here[i] = distance(extra[i], remainder[i], w);
-        i += 1;
     }
     here
-}
-
-fn smaller_of(kept: i64, here: i64) -> i64
-    ensures { result ≡ smaller kept here }
-{
-    if here < kept { here } else { kept }
-}
-
-fn larger_of(kept: i64, here: i64) -> i64
-    ensures { result ≡ larger kept here }
-{
-    if kept < here { here } else { kept }
 }
 
 // The smaller and the larger of the kept and the hour's, party by party.
@@ -61,11 +47,9 @@ fn widened(least: &[i64; 64], most: &[i64; 64], here: &[i64; 64], n: usize) -> D
 {
     let mut smallest = [0i64; 64];
     let mut largest = [0i64; 64];
-    let mut i = 0;
-    while i < n {
-        smallest[i] = smaller_of(least[i], here[i]);
-        largest[i] = larger_of(most[i], here[i]);
-        i += 1;
+    for i in 0..n {
+        smallest[i] = least[i].min(here[i]);
+        largest[i] = most[i].max(here[i]);
     }
     Distances { smallest, largest }
 }

@@ -1,13 +1,13 @@
 -- The numbers of the reviewer's report of a month that was read: hour by hour the two sums over the parties, and each party's smallest and largest distance; or
 -- the first refusal.
-use Rattle.std.specs.Prelude.{List, ◌≡◌, ℕ, ◌-◌, ◌≤◌, ◌<◌, ℤ, pos, length}
+use Rattle.std.specs.Prelude.{List, ◌≡◌, ℕ, ◌-◌, ◌≤◌, ◌<◌, ℤ, pos, length, Result, Ok}
 use Rattle.answer.specs.Said.{said}
+use Rattle.answer.specs.declared.Refused.{Refused}
 use Rattle.apportion.specs.Filled.{Filled}
 use Rattle.file_sections.specs.Walk.{Accepted}
 use Rattle.file_sections.specs.declared.Sections.{Sections}
 use Rattle.report_figures.specs.declared.Hourly as D
-use Rattle.month_prepare.specs.Checks.{Making, MadeIs}
-use Rattle.month_prepare.specs.declared.Made.{Made}
+use Rattle.month_prepare.specs.Checks.{making_verdict}
 use Rattle.month_series.specs.Series.{residual_at}
 use Rattle.setting.specs.Asked.{asked}
 use Rattle.setting.specs.declared.Setting.{Setting}
@@ -42,14 +42,10 @@ pub record HourlyMade (m : MonthFile) (r : D.Hourly) (fixed refixed curveNumbers
   pub smallest : Filled (pos 0) (smallest_distance m (H m - 1)) (P m) r.distances.smallest
   pub largest : Filled (pos 0) (largest_distance m (H m - 1)) (P m) r.distances.largest
 
-pub record HourlyIs (setting : Setting) (m : MonthFile) (r : D.Hourly) (fixed refixed curveNumbers : List ℕ) (distributed : List ℤ) (periodised : List ℕ) : Type 0 where
-  pub verdict : said r.answer ≡ month_verdict (asked setting) m
-  pub made : said r.answer ≡ R.accepted → HourlyMade m r fixed refixed curveNumbers distributed periodised
+pub record HourlyIs (setting : Setting) (m : MonthFile) (r : Result D.Hourly Refused) (fixed refixed curveNumbers : List ℕ) (distributed : List ℤ) (periodised : List ℕ) : Type 0 where
+  pub verdict : said r ≡ month_verdict (asked setting) m
+  pub made : (x : D.Hourly) → r ≡ Ok x → HourlyMade m x fixed refixed curveNumbers distributed periodised
 
--- what the hours are passed with: all that is made before them of a month that nothing refuses so far
-pub record MadeSo (m : MonthFile) (r : Made) (fixed refixed curveNumbers beginnings : List ℕ) : Type 0 where
-  pub made : said r.answer ≡ R.accepted → Making m r fixed refixed curveNumbers beginnings
-
--- and what they bring to it, under whatever setting it was judged by: refused then, or 14 by hour, or the numbers
-pub record PassedIs (m : MonthFile) (made : Made) (r : D.Hourly) (fixed refixed curveNumbers beginnings : List ℕ) (distributed : List ℤ) (periodised : List ℕ) : Type 0 where
-  pub under : (setting : Setting) → MadeIs setting m made fixed refixed curveNumbers beginnings → HourlyIs setting m r fixed refixed curveNumbers distributed periodised
+-- what the hours of a month bring that nothing refuses before them, under whatever setting it was judged by: 14 by hour, or the numbers
+pub record PassedIs (m : MonthFile) (r : Result D.Hourly Refused) (fixed refixed curveNumbers : List ℕ) (distributed : List ℤ) (periodised : List ℕ) : Type 0 where
+  pub under : (setting : Setting) → making_verdict (asked setting) m ≡ R.accepted → HourlyIs setting m r fixed refixed curveNumbers distributed periodised

@@ -1,18 +1,18 @@
 -- The hours of a month passed one after the other: of each the sum of its distributed and of its periodised figures is kept, and the distances so far.
-use Rattle.std.specs.Prelude.{List, ◌≡◌, ℕ, suc, ◌-◌, ◌≤◌, ◌<◌, eqb, ℤ, pos, set}
+use Rattle.std.specs.Prelude.{List, ◌≡◌, ℕ, suc, ◌-◌, ◌≤◌, ◌<◌, eqb, ℤ, pos, set, Result, Ok}
 use Rattle.answer.specs.Said.{said}
+use Rattle.answer.specs.declared.Refused.{Refused}
 use Rattle.apportion.specs.Filled.{Filled}
 use Rattle.distribute.specs.Good.{Good}
 use Rattle.report_distances.specs.Extremes.{With}
 use Rattle.report_distances.specs.declared.Distances.{Distances}
 use Rattle.hour_settled.specs.Column.{column, Column, EachInHour, addable}
 use Rattle.hour_settled.specs.Sums.{Summable}
-use Rattle.report_figures.specs.declared.Passed.{Passed}
 use Rattle.month_walk.specs.declared.Walk.{Walk}
 use Rattle.rules.specs.HoursReport.{all_distributed, smallest_distance, largest_distance}
 use Rattle.rules.specs.Month.{all_periodised, periodised_verdict}
 use Rattle.rules.specs.MonthFile.{MonthFile, H, P}
-use Rattle.rules.specs.Refusals.{accepted, in_turn}
+use Rattle.rules.specs.Refusals.{in_turn}
 use Rattle.rules.specs.Services.{at_ℤ}
 use Rattle.rules.specs.Words.{sum, sum_ℤ, figures}
 use Rattle.rules.proofs.Loops.{Filling}
@@ -50,6 +50,6 @@ pub record SumsLent (m : MonthFile) (distributed periodised : ℕ) : Type 0 wher
   pub periodised_size : periodised ≡ H m
 
 -- ALL HOURS OF THE MONTH
-pub record MonthPassed (m : MonthFile) (r : Passed) (d : List ℤ) (p : List ℕ) : Type 0 where
-  pub verdict : said r.answer ≡ in_turn (H m) (periodised_verdict m)
-  pub after : said r.answer ≡ accepted → PassedTo m (H m) r.distances d p
+pub record MonthPassed (m : MonthFile) (r : Result Distances Refused) (d : List ℤ) (p : List ℕ) : Type 0 where
+  pub verdict : said r ≡ in_turn (H m) (periodised_verdict m)
+  pub after : (x : Distances) → r ≡ Ok x → PassedTo m (H m) x d p

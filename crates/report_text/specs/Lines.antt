@@ -1,18 +1,14 @@
 -- The lines of the reviewer's report in the three lent buffers: the heading line and the first hours, the other hours, the parties.
 use Rattle.std.specs.Prelude.{List, ◌++◌, ◌≡◌, ℕ, ◌+◌, ◌-◌, ◌*◌, ◌/◌, ◌≤◌, ◌<◌, min, ℤ, pos}
-use Rattle.answer.specs.Said.{said}
 use Rattle.apportion.specs.Filled.{Filled}
 use Rattle.report_distances.specs.declared.Distances.{Distances}
 use Rattle.file_sections.specs.Walk.{Accepted}
 use Rattle.file_sections.specs.declared.Sections.{Sections}
-use Rattle.report_figures.specs.Hourly.{HourlyMade}
-use Rattle.report_figures.specs.declared.Hourly.{Hourly}
 use Rattle.report_lines.specs.Rooms.{hour_room, distances_room}
 use Rattle.rules.specs.HoursReport.{hour_line, all_distributed, smallest_distance, largest_distance, distances_line}
 use Rattle.rules.specs.Limits.{most_hours, most_parties, greatest_periodised}
 use Rattle.rules.specs.Month.{month_of, month_w, fixed_wh, applied_wh, curve, all_periodised, estimated_hours}
 use Rattle.rules.specs.MonthFile.{MonthFile, H, P}
-use Rattle.rules.specs.Refusals.{accepted}
 use Rattle.rules.specs.Statement.{heading_line, joined}
 use Rattle.rules.specs.Words.{figures}
 use Rattle.statement_lines.specs.Rooms.{heading_room}
@@ -54,11 +50,6 @@ pub record Known (file : List ℕ) (s : Sections) (fixed applied curveNumbers : 
   pub distributed_is : distributed ≡ figures (H (month_of file)) (all_distributed (month_of file))
   pub periodised_is : periodised ≡ figures (H (month_of file)) (all_periodised (month_of file))
   pub in_limit : (t : ℕ) → t < H (month_of file) → all_periodised (month_of file) t ≤ greatest_periodised
-
--- a month's numbers, where no check refused it
-abbrev pub NumbersOf : MonthFile → Hourly → List ℕ → List ℕ → List ℕ → List ℤ → List ℕ → Type 0
-NumbersOf m made fixed refixed curveNumbers distributed periodised =
-    said made.answer ≡ accepted → HourlyMade m made fixed refixed curveNumbers distributed periodised
 
 -- hours of the month
 pub record Inside (file : List ℕ) (start hours : ℕ) : Type 0 where

@@ -4,34 +4,49 @@
 
 ghost use Rattle.std.specs.Prelude.{◌≡◌};
 ghost use Rattle.rules.specs.Flows.{residual};
-ghost use Rattle.residual.specs.Hour.{flows_here, WithinLimits};
+ghost use Rattle.answer.specs.Said.{named};
+ghost use Rattle.residual.specs.Hour.{flows_here, refusal_of, WithinLimits};
 ghost use Rattle.residual.specs.Promised.{JudgePromised, AppliedPromised};
+
+use answer::Refusal;
 
 // "Residual 0..2,000,000,000.", as wide as a residual that may be negative.
 const GREATEST_RESIDUAL: i64 = limits::GREATEST_RESIDUAL_WH as i64;
 
-// What is decided of one hour: its residual in Wh, or why it has none.
-#[derive(Clone, Copy)]
-pub enum Hour {
-    Figure(u32),
+// Why an hour has no residual.
+#[derive(Clone, Copy, Debug, PartialEq, Eq)]
+pub enum NoResidual {
     Missing,
     Negative,
     TooLarge,
 }
 
+// "7, 8, 9"
+impl From<NoResidual> for Refusal {
+    ghost from_gives = { λ why refusal. named refusal ≡ refusal_of why };
+
+    fn from(why: NoResidual) -> Refusal {
+        match why {
+            NoResidual::Missing => Refusal::MissingHour,
+            NoResidual::Negative => Refusal::ResidualNegative,
+            NoResidual::TooLarge => Refusal::ResidualTooLarge,
+        }
+    }
+}
+
 // "then the fixed hours in order, each 7, 8, 9": one hour, by its status and the ranges of its residual.
-pub fn judge(status: u8, residual_wh: i64) -> Hour
+pub fn judge(status: u8, residual_wh: i64) -> Result<u32, NoResidual>
     ensures { JudgePromised status residual_wh result }
 {
     match status {
-        limits::MISSING => Hour::Missing,
+        limits::MISSING => Err(NoResidual::Missing),
         _ => match residual_wh {
-            ..0 => Hour::Negative,
+            ..0 => Err(NoResidual::Negative),
             0..=GREATEST_RESIDUAL => {
                 let wh = residual_wh as u32;
-                Hour::Figure(wh)
+                Ok(wh)
             }
-            _ => Hour::TooLarge,
+            _ => Err(NoResidual::TooLarge),
         },
     }
 }

@@ -13,8 +13,8 @@ ghost use Rattle.residual.specs.Hour.{judgement, flows_here};
 ghost use Rattle.residual_service.specs.Passes.{residual_here, WithinLimitsAt, residual_shape, ranges_of, SameLengths, Ranged, Judged};
 ghost use Rattle.residual_service.specs.Promised.{Promised};
 
-use answer::{Answer, Refusal};
-use residual::Hour;
+use answer::{Refusal, Refused};
+use residual::NoResidual;
 
 // "Net supply -8,000,000,000..8,000,000,000"
 const GREATEST_NET_WH: i64 = limits::GREATEST_FLOW_WH as i64;
@@ -30,14 +30,12 @@ fn residual_at(nets: &[i64], productions: &[u64], hourlies: &[u64], flexes: &[u6
 }
 
 // A judgement as an answer at its hour: 7, 8, 9, or done.
-fn answer_of(hour: Hour, place: usize) -> Answer
+fn answer_of(hour: Result<u32, NoResidual>, place: usize) -> Result<(), Refused>
     ensures { said result ≡ verdict_of (judgement hour) place }
 {
     match hour {
-        Hour::Figure(_) => Answer::Done,
-        Hour::Missing => Answer::Refused(Refusal::MissingHour, place),
-        Hour::Negative => Answer::Refused(Refusal::ResidualNegative, place),
-        Hour::TooLarge => Answer::Refused(Refusal::ResidualTooLarge, place),
+        Ok(_) => Ok(()),
+        Err(why) => Err(Refused(Refusal::from(why), place)),
     }
 }
 
@@ -49,17 +47,15 @@ fn silent_is_zero(status: u8, net: i64, production: u64, hourly: u64, flex: u64)
 }
 
 // Every status is 0, 1 or 2.
-fn statuses_in_range(statuses: &[u8]) -> Answer
+fn statuses_in_range(statuses: &[u8]) -> Result<(), Refused>
     ensures { said result ≡ each_at statuses.now (at_most estimated) out_of_range }
 {
-    let mut i = 0;
-    while i < statuses.len() {
+    for i in 0..statuses.len() {
         if limits::ESTIMATED < statuses[i] {
-            return Answer::Refused(Refusal::OutOfRange, i);
+            return Err(Refused(Refusal::OutOfRange, i));
         }
-        i += 1;
     }
-    Answer::Done
+    Ok(())
 }
 
 // 16; 4: lists of unequal length, H outside 1..745. Of lengths alone.
@@ -70,23 +66,23 @@ fn residual_shape(
     hourlies: usize,
     flexes: usize,
     lent: usize,
-) -> Answer
+) -> Result<(), Refused>
     ensures { said result ≡ residual_shape statuses nets productions hourlies flexes lent }
 {
     if lent != statuses {
-        return Answer::Refused(Refusal::WrongLength, 0);
+        return Err(Refused(Refusal::WrongLength, 0));
     }
     if !((nets == statuses)
         & (productions == statuses)
         & (hourlies == statuses)
         & (flexes == statuses))
     {
-        return Answer::Refused(Refusal::OutOfRange, 0);
+        return Err(Refused(Refusal::OutOfRange, 0));
     }
     if !((1 <= statuses) & (statuses <= limits::MOST_HOURS)) {
-        return Answer::Refused(Refusal::OutOfRange, 0);
+        return Err(Refused(Refusal::OutOfRange, 0));
     }
-    Answer::Done
+    Ok(())
 }
 
 // "the place of 4 is the first value outside in its list, lists in the order named"
@@ -96,34 +92,14 @@ fn flows_in_range(
     productions: &[u64],
     hourlies: &[u64],
     flexes: &[u64],
-) -> Answer
+) -> Result<(), Refused>
     ensures { said result ≡ ranges_of statuses.now nets.now productions.now hourlies.now flexes.now }
 {
-    let by_status = statuses_in_range(statuses);
-    let Answer::Done = by_status else {
-        return by_status;
-    };
-    let by_net = answer::each_within_i64(nets, LEAST_NET_WH, GREATEST_NET_WH, Refusal::OutOfRange);
-    let Answer::Done = by_net else {
-        return by_net;
-    };
-    let by_production = answer::each_at_most_u64(
-        productions,
-        limits::GREATEST_FLOW_WH,
-        Refusal::OutOfRange,
-    );
-    let Answer::Done = by_production else {
-        return by_production;
-    };
-    let by_hourly = answer::each_at_most_u64(
-        hourlies,
-        limits::GREATEST_FLOW_WH,
-        Refusal::OutOfRange,
-    );
-    let Answer::Done = by_hourly else {
-        return by_hourly;
-    };
-    answer::each_at_most_u64(flexes, limits::GREATEST_FLOW_WH, Refusal::OutOfRange)
+    statuses_in_range(statuses)?;
+    answer::each_within_i64(nets, LEAST_NET_WH, GREATEST_NET_WH, Refusal::OutOfRange)?;
+    answer::each_at_most(productions, limits::GREATEST_FLOW_WH, Refusal::OutOfRange)?;
+    answer::each_at_most(hourlies, limits::GREATEST_FLOW_WH, Refusal::OutOfRange)?;
+    answer::each_at_most(flexes, limits::GREATEST_FLOW_WH, Refusal::OutOfRange)
 }
 
 // The first missing hour that has a figure: 4 at that hour.
@@ -133,19 +109,17 @@ fn silent_hours(
     productions: &[u64],
     hourlies: &[u64],
     flexes: &[u64],
-) -> Answer
+) -> Result<(), Refused>
     requires { SameLengths statuses.now nets.now productions.now hourlies.now flexes.now }
     ensures { said result ≡ in_turn (length statuses.now)
         (silent_check statuses.now nets.now productions.now hourlies.now flexes.now) }
 {
-    let mut t = 0;
-    while t < statuses.len() {
+    for t in 0..statuses.len() {
         if !silent_is_zero(statuses[t], nets[t], productions[t], hourlies[t], flexes[t]) {
-            return Answer::Refused(Refusal::OutOfRange, t);
+            return Err(Refused(Refusal::OutOfRange, t));
         }
-        t += 1;
     }
-    Answer::Done
+    Ok(())
 }
 
 // "each 7, 8, 9": the first hour that has no figure.
@@ -155,22 +129,17 @@ fn judge_hours(
     productions: &[u64],
     hourlies: &[u64],
     flexes: &[u64],
-) -> Answer
+) -> Result<(), Refused>
     requires { Ranged statuses.now nets.now productions.now hourlies.now flexes.now }
     ensures { said result ≡ in_turn (length statuses.now)
         (hour_check statuses.now nets.now productions.now hourlies.now flexes.now) }
 {
-    let mut t = 0;
-    while t < statuses.len() {
+    for t in 0..statuses.len() {
         let wh = residual_at(nets, productions, hourlies, flexes, t);
         let hour = residual::judge(statuses[t], wh);
-        let here = answer_of(hour, t);
-        let Answer::Done = here else {
-            return here;
-        };
-        t += 1;
+        answer_of(hour, t)?;
     }
-    Answer::Done
+    Ok(())
 }
 
 // The residual of every hour, of hours that all have one.
@@ -186,11 +155,9 @@ fn write_residuals(
     requires out_len { length out.old ≡ length statuses.now }
     ensures { out.new ≡ residual_figures statuses.now nets.now productions.now hourlies.now flexes.now }
 {
-    let mut t = 0;
-    while t < out.len() {
+    for t in 0..out.len() {
         let wh = residual_at(nets, productions, hourlies, flexes, t);
         out[t] = wh as u32;
-        t += 1;
     }
 }
 
@@ -202,33 +169,21 @@ pub fn residual(
     hourlies: &[u64],
     flexes: &[u64],
     out: &mut [u32],
-) -> Answer
+) -> Result<(), Refused>
     ensures { Promised statuses.now nets.now productions.now hourlies.now flexes.now
         out.old result out.new }
 {
-    let shape = residual_shape(
+    residual_shape(
         statuses.len(),
         nets.len(),
         productions.len(),
         hourlies.len(),
         flexes.len(),
         out.len(),
-    );
-    let Answer::Done = shape else {
-        return shape;
-    };
-    let ranges = flows_in_range(statuses, nets, productions, hourlies, flexes);
-    let Answer::Done = ranges else {
-        return ranges;
-    };
-    let silent = silent_hours(statuses, nets, productions, hourlies, flexes);
-    let Answer::Done = silent else {
-        return silent;
-    };
-    let hours = judge_hours(statuses, nets, productions, hourlies, flexes);
-    let Answer::Done = hours else {
-        return hours;
-    };
+    )?;
+    flows_in_range(statuses, nets, productions, hourlies, flexes)?;
+    silent_hours(statuses, nets, productions, hourlies, flexes)?;
+    judge_hours(statuses, nets, productions, hourlies, flexes)?;
     write_residuals(statuses, nets, productions, hourlies, flexes, out);
-    Answer::Done
+    Ok(())
 }

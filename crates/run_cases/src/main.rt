@@ -2,15 +2,16 @@
 // day 5, over both hours and over the last alone, with refusals of its own; then the second on the differences that the first gave. One line for each.
 #![tactic(auto)]
 
-use answer::{Answer, Refusal};
+use answer::Refused;
 use setting::Setting;
 use std::io;
 
 // Both files have two parties.
 const PARTIES: usize = 2;
 
-fn refused(rt: &impl Print, x: Refusal, place: usize) -> io::Result<()> {
-    let number = answer::number(x);
+fn refused(rt: &impl Print, refused: Refused) -> io::Result<()> {
+    let Refused(refusal, place) = refused;
+    let number = refusal.number();
     println!(rt; "refused {number} at {place}")
 }
 
@@ -45,7 +46,7 @@ fn figures(rt: &impl Print, name: &[u8], all: &[i64]) -> io::Result<()> {
 fn figures_wh(rt: &impl Print, name: &[u8], all: &[u32]) -> io::Result<()> {
     rt.write_all(name)?;
     for wh in all {
-        figure(rt, reconcile::signed(*wh))?;
+        figure(rt, i64::from(*wh))?;
     }
     Ok(())
 }
@@ -87,8 +88,8 @@ fn run_lent(
         losses_wh,
     );
     match answered {
-        Answer::Refused(x, place) => refused(rt, x, place),
-        Answer::Done => quantities(rt, distributed_wh, periodised_wh, differences_wh, losses_wh),
+        Err(x) => refused(rt, x),
+        Ok(()) => quantities(rt, distributed_wh, periodised_wh, differences_wh, losses_wh),
     }
 }
 
@@ -142,8 +143,8 @@ fn amounts_lent(
         amounts_millionths,
     );
     match answered {
-        Answer::Refused(x, place) => refused(rt, x, place),
-        Answer::Done => {
+        Err(x) => refused(rt, x),
+        Ok(()) => {
             figures(rt, b"amount", amounts_millionths)?;
             println!(rt)
         }
@@ -181,8 +182,8 @@ fn priced_later(
         losses_wh,
     );
     match answered {
-        Answer::Refused(x, place) => refused(rt, x, place),
-        Answer::Done => amounts_case(rt, differences_wh, &[500000i64, 1200000]),
+        Err(x) => refused(rt, x),
+        Ok(()) => amounts_case(rt, differences_wh, &[500000i64, 1200000]),
     }
 }
 

@@ -1,7 +1,7 @@
 -- What a setting of the code is in the words of the rules, of the month and of its prices, and the promise of 17.
-use Rattle.std.specs.Prelude.{◌≡◌, ℕ}
+use Rattle.std.specs.Prelude.{◌≡◌, ℕ, Result, ⊤}
 use Rattle.answer.specs.Said.{said}
-use Rattle.answer.specs.declared.Answer.{Answer}
+use Rattle.answer.specs.declared.Refused.{Refused}
 use Rattle.setting.specs.declared.Setting.{Setting}
 use Rattle.setting.specs.declared.Setting.TheVariants.{Final, Provisional}
 use Rattle.setting.specs.declared.Prices.{Prices}
@@ -18,5 +18,5 @@ prices_asked Needed = R.needed
 prices_asked Optional = R.optional
 
 -- THE PROMISE of `refixed_or_provisional`: its `ensures` cites it, and so does what is proved of every service (`every_service`)
-abbrev pub Promised : Setting → ℕ → Answer → Type 0
+abbrev pub Promised : Setting → ℕ → Result ⊤ Refused → Type 0
 Promised setting refixed r = said r ≡ refixed_verdict (asked setting) refixed

@@ -5,7 +5,7 @@
 
 ghost use Rattle.setting.specs.Asked.{Promised};
 
-use answer::{Answer, Refusal};
+use answer::{Refusal, Refused};
 
 #[derive(Clone, Copy)]
 pub enum Setting {
@@ -21,16 +21,16 @@ pub enum Prices {
 }
 
 // "17, no refixed series in a final run, place 0": by the number of 06 records.
-pub fn refixed_or_provisional(setting: Setting, refixed: usize) -> Answer
+pub fn refixed_or_provisional(setting: Setting, refixed: usize) -> Result<(), Refused>
     ensures { Promised setting refixed result }
 {
     match setting {
-        Setting::Provisional => Answer::Done,
+        Setting::Provisional => Ok(()),
         Setting::Final => {
             if refixed == 0 {
-                return Answer::Refused(Refusal::NotRefixed, 0);
+                return Err(Refused(Refusal::NotRefixed, 0));
             }
-            Answer::Done
+            Ok(())
         }
     }
 }

@@ -5,9 +5,7 @@
 ghost use Rattle.plan_checks.specs.Handed.{handed};
 ghost use Rattle.settle_c.specs.Promised.{ResidualPromised, CurvePromised, DistributionPromised, PeriodisationPromised, ReconciliationPromised, AmountsPromised, InvoicePromised, PlanPromised};
 
-use answer::Answer;
 use answer_code::code;
-use reconcile_service::Reconciled;
 
 // RESIDUAL: the residual of each hour into `out`.
 pub fn settle_residual(
@@ -74,14 +72,11 @@ pub fn settle_reconciliation(
         amounts_millionths,
     );
     match answered {
-        Reconciled::Loss(loss) => {
+        Ok(loss) => {
             *loss_wh = loss;
             0
         }
-        Reconciled::Refused(refusal, place) => {
-            let refused = Answer::Refused(refusal, place);
-            code(refused)
-        }
+        Err(refused) => code(Err(refused)),
     }
 }
 

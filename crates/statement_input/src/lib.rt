@@ -10,7 +10,7 @@ ghost use Rattle.statement_text.specs.Stating.{per_of, statement_room};
 
 use setting::Setting;
 use standard_input::Ending;
-use statement_text::{Per, Stated};
+use statement_text::Per;
 
 // The most bytes of a statement.
 const ROOM: usize = statement_text::STATEMENT_ROOM;
@@ -28,7 +28,7 @@ fn file_text(file: &[u8], setting: Setting, per: Per, out: &mut [u8]) -> usize
     ensures { Printed (statement_per (per_of per) (asked setting) file.now) out.old result out.new }
 {
     let stated = statement_text::statement(file, setting, per, out);
-    let Stated::Lines(n) = stated else {
+    let Ok(n) = stated else {
         return statement_text::refusal_line(stated, out);
     };
     n

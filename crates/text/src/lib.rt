@@ -48,22 +48,9 @@ pub fn put_bytes(out: &mut [u8], place: usize, text: &[u8]) -> usize
     requires { place + length text.now ≤ length out.old }
     ensures { Put text.now out.old place out.new result }
 {
-    let mut i: usize = 0;
-    while i < text.len() {
-        out[place + i] = text[i];
-        i += 1;
-    }
-    place + i
-}
-
-// The size of a number without its sign; -1 - z is one less than that of a negative z, and fits for every z.
-fn size(signed: i64) -> u64
-    ensures { result ≡ nat_abs signed }
-{
-    if signed < 0 {
-        return (-1 - signed) as u64 + 1;
-    }
-    signed as u64
+    let end = place + text.len();
+    out[place..end].copy_from_slice(text);
+    end
 }
 
 // "a minus before negatives", and none before 0
@@ -72,7 +59,7 @@ fn put_signed(out: &mut [u8], place: usize, z: i64) -> usize
     ensures text { Put (signed_decimal z) out.old place out.new result }
     ensures within { result ≤ place + most_digits }
 {
-    let n = size(z);
+    let n = z.unsigned_abs();
     if z < 0 {
         let digits = put_bytes(out, place, b"-");
         return put_number(out, digits, n);
@@ -134,7 +121,7 @@ pub fn put_refusal(refusal: Refusal, place: usize, out: &mut [u8]) -> usize
     ensures text { Put (refusal_line (named refusal) place) out.old 0 out.new result }
     ensures within { result ≤ longest_refusal_line }
 {
-    let number = answer::number(refusal) as u64;
+    let number = u64::from(refusal.number());
     let after_number = put_word_number(out, 0, b"refused ", number);
     let after_place = put_word_number(out, after_number, b" at ", place as u64);
     put_bytes(out, after_place, b"\n")
