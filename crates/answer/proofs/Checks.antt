@@ -4,7 +4,7 @@ use mathlib.Core.List.{List, [], ◌∷◌, ◌++◌}
 use mathlib.Core.Path.{◌≡◌, refl, sym, ◌∙◌, ap}
 use Prim.Native.Nat.{ℕ}
 use native.Mathlib.Omega.{arith}
-use Rattle.std.specs.Prelude.{Result, Ok, Err}
+use Rattle.std.specs.Prelude.{Result, Ok, Err, IsErr, IsErrAnd}
 use Rattle.answer.specs.Said.{said}
 use Rattle.answer.specs.declared.Refused.{Refused}
 use Rattle.rules.specs.Refusals.{Refusal, Verdict, accepted, refused, unless, and_then, first, afterwards}
@@ -88,3 +88,17 @@ passes {b = b} r i e h = rw (sym e ∙ flag_on b h)
 pub stops : {test b : Bool} (r : Refusal) (i : ℕ) → b ≡ test → not b ≡ true → unless test r i ≡ refused r i
 unfolding unless
 stops {b = b} r i e h = rw (sym e ∙ flag_off b h)
+
+-- what `?` hands on is the refusal that it was given
+pub handed : {A : Type 0} {r : Result A Refused} {refused : Refused} → IsErr r × IsErrAnd r (λ y. y ≡ refused) → r ≡ Err refused
+handed {r = Ok given} (is, gives) = absurd (let z : ◌≡◌ {A = ℕ} 0 1 = cc in omega arith)
+handed {r = Err y} (is, gives) = ap Err gives
+
+-- and so it says what the pass said that refused
+pub handed_refuses :
+    {A B : Type 0} {x : Result A Refused} {r : Result B Refused} {check : Verdict} {refused : Refused} (later : List Verdict)
+    → said x ≡ check
+    → x ≡ Err refused
+    → r ≡ Err refused
+    → said r ≡ first (check ∷ later)
+handed_refuses later e told on = ap said on ∙ sym (ap said told) ∙ pass_refuses later e told

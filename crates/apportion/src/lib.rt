@@ -15,14 +15,14 @@ ghost use Rattle.rules.specs.Words.{at};
 fn below(a: u64, b: u64) -> u64
     ensures { result ≡ below_number a b }
 {
-    u64::from(a < b)
+    (a < b) as u64
 }
 
 // 1 where they are the same, else 0.
 fn same(a: u64, b: u64) -> u64
     ensures { result ≡ same_number a b }
 {
-    u64::from(a == b)
+    (a == b) as u64
 }
 
 // "the largest remainders ..; of equal remainders the lower party number comes first": 1 where the other comes before, else 0.
@@ -35,7 +35,7 @@ fn comes_before(other: u64, own: u64, lower: bool) -> u64
     if other < own {
         return 0;
     }
-    u64::from(lower)
+    lower as u64
 }
 
 // The bits of both: at least as much as either.

@@ -31,7 +31,7 @@ fn curve_number(wh: u32, w: u64) -> u64
     requires { 0 < w }
     ensures { result ≡ curve_number wh w }
 {
-    rounded_down(u64::from(wh) * CURVE_SCALE, w)
+    rounded_down(wh as u64 * CURVE_SCALE, w)
 }
 
 // 16; 4: H outside 1..745; 6: W outside 1..4,000,000,000.
@@ -81,7 +81,7 @@ pub fn curve(residuals: &[u32], w: u64, out: &mut [u32]) -> Result<(), Refused>
     curve_shape(residuals.len(), w, out.len())?;
     answer::each_at_most(
         residuals,
-        u64::from(limits::GREATEST_RESIDUAL_WH),
+        limits::GREATEST_RESIDUAL_WH as u64,
         Refusal::ResidualTooLarge,
     )?;
     curve_numbers_fit(residuals, w)?;

@@ -141,7 +141,7 @@ impl Carries {
         let share = self.share;
         let remainder = self.remainder;
         let before = self.extra;
-        let residual = u64::from(residual_wh);
+        let residual = residual_wh as u64;
         let grown = grown_by(&remainder, &share, n, residual);
         let parts = divide(&grown, n, w);
         let quotient = parts.quotient;

@@ -66,7 +66,7 @@ pub fn distribution(shares: &[u64], residuals: &[u32], out: &mut [i64]) -> Resul
     w_in_range(shares)?;
     each_at_most(
         residuals,
-        u64::from(limits::GREATEST_RESIDUAL_WH),
+        limits::GREATEST_RESIDUAL_WH as u64,
         Refusal::ResidualTooLarge,
     )?;
     distribute(shares, residuals, out);

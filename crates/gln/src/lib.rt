@@ -41,7 +41,7 @@ pub fn check(part: &[u8]) -> Option<u64>
         if b'9' < byte {
             return None;
         }
-        let digit = u64::from(byte - b'0');
+        let digit = (byte - b'0') as u64;
         number = number * 10 + digit;
         weighted += weight_of_position(position) * digit;
     }

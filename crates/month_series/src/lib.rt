@@ -58,7 +58,7 @@ fn judge_flows(f: Flows) -> Result<u32, NoResidual>
 fn estimated_one(status: u8) -> usize
     ensures { result ≡ estimated_one status }
 {
-    usize::from(status == limits::ESTIMATED)
+    (status == limits::ESTIMATED) as usize
 }
 
 // "then the fixed hours in order, each 7, 8, 9; the refixed hours likewise": the residual of every hour of either series, and how many of its hours are estimated; or
@@ -93,7 +93,7 @@ pub fn beginnings(curve: &[u32], out: &mut [u64])
     let mut sum = 0;
     for t in 0..curve.len() {
         out[t] = sum;
-        sum += u64::from(curve[t]);
+        sum += curve[t] as u64;
     }
     out[curve.len()] = sum;
 }

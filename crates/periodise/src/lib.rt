@@ -27,7 +27,7 @@ pub fn total(values: &[u32]) -> u64
 {
     let mut sum_so_far: u64 = 0;
     for value in values {
-        sum_so_far += u64::from(*value);
+        sum_so_far += *value as u64;
     }
     sum_so_far
 }
@@ -51,7 +51,7 @@ pub fn hour_of(e: u64, weight: u32, left: u64, divisor: u64) -> Turn
     requires { Turning e weight left divisor }
     ensures { Turned e weight left divisor result.wh result.left }
 {
-    let t = left + e * u64::from(weight);
+    let t = left + e * weight as u64;
     let wh = (t / divisor) as u32;
     let rest = t % divisor;
     Turn { wh: wh, left: rest }
@@ -77,7 +77,7 @@ pub fn add(s: Spread, part: &[u32], skip: usize, skipped: u64, out: &mut [u64])
     let mut left = product_mod(s.e_wh, s.before + skipped, divisor);
     for i in 0..out.len() {
         let t = hour_of(s.e_wh, part[skip + i], left, divisor);
-        out[i] += u64::from(t.wh);
+        out[i] += t.wh as u64;
         left = t.left;
     }
 }

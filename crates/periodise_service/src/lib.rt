@@ -59,7 +59,7 @@ pub fn periodisation(e: u64, weights: &[u32], out: &mut [u32]) -> Result<(), Ref
     }
     answer::each_at_most(
         weights,
-        u64::from(limits::GREATEST_CURVE_NUMBER),
+        limits::GREATEST_CURVE_NUMBER as u64,
         Refusal::CurveTooLarge,
     )?;
     let s = periodise::total(weights);

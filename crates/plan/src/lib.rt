@@ -27,7 +27,7 @@ fn whole_weight(a: u16, b: u16, hours: &[u16], curves: &[u32]) -> u64
     requires { Weighed (of_all a b hours.now curves.now) }
     ensures { result ≡ planned_whole (of_all a b hours.now curves.now) }
 {
-    let start = usize::from(a);
+    let start = a as usize;
     let end = start + reading_hours(a, b, hours);
     periodise::total(&curves[start..end])
 }
@@ -79,8 +79,8 @@ fn make(
             e_wh: e_wh,
             over: Over::ManyMonths(before, whole),
         };
-        before += periodise::total(&curves[start + usize::from(from)..start + usize::from(to)]);
-        start += usize::from(hours[k]);
+        before += periodise::total(&curves[start + from as usize..start + to as usize]);
+        start += hours[k] as usize;
     }
     Planned {
         months: hours.len(),

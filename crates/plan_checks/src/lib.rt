@@ -72,7 +72,7 @@ fn all_hours(hours: &[u16]) -> usize
 {
     let mut sum = 0;
     for h in hours {
-        sum += usize::from(*h);
+        sum += *h as usize;
     }
     sum
 }
@@ -114,7 +114,7 @@ pub fn reading_hours(a: u16, b: u16, hours: &[u16]) -> usize
     for k in 0..hours.len() {
         let from = part_from(k, a);
         let to = part_to(k, b, hours);
-        sum += usize::from(to - from);
+        sum += (to - from) as usize;
     }
     sum
 }
@@ -137,7 +137,7 @@ fn curves_fit(curves: &[u32]) -> Result<(), Refused>
 {
     let each = answer::each_at_most(
         curves,
-        u64::from(limits::GREATEST_CURVE_NUMBER),
+        limits::GREATEST_CURVE_NUMBER as u64,
         Refusal::CurveTooLarge,
     );
     let Ok(()) = each else {

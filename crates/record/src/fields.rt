@@ -11,7 +11,7 @@ pub fn number_at(s: &[u8], at: usize, width: usize) -> u64
 {
     let mut number: u64 = 0;
     for k in 0..width {
-        number = number * 256 + u64::from(s[at + k]);
+        number = number * 256 + s[at + k] as u64;
     }
     number
 }

@@ -46,7 +46,7 @@ fn figures(rt: &impl Print, name: &[u8], all: &[i64]) -> io::Result<()> {
 fn figures_wh(rt: &impl Print, name: &[u8], all: &[u32]) -> io::Result<()> {
     rt.write_all(name)?;
     for wh in all {
-        figure(rt, i64::from(*wh))?;
+        figure(rt, *wh as i64)?;
     }
     Ok(())
 }
