@@ -1,12 +1,14 @@
--- Texts put one after the other: two puts are the put of the appended text, and one byte more is such a put.
-use mathlib.Core.List.{List, [], ◌∷◌, ◌++◌, append_assoc}
+-- Texts put one after the other: two puts are the put of the appended text, and a copied text is a put.
+use mathlib.Core.List.{List, [], ◌++◌, append_assoc}
 use mathlib.Core.Path.{◌≡◌, refl, sym, ◌∙◌, ap, ap₂}
-use Prim.Native.Nat.{ℕ, ◌+◌, ◌≤◌, ◌<◌, zero-le}
+use Prim.Native.Nat.{ℕ, ◌+◌, ◌≤◌}
 use native.Mathlib.Nat.{zero-add, add-zero}
-use native.Mathlib.Numerals.{add-one}
 use native.Mathlib.Omega.{arith}
-use lib.ListN.{length, get_or, take, drop, set, length-append}
-use lib.Seq.{sets, sets-eq, length-sets, take-suc, take_all}
+use borrow.Rule.Slice.PartMut.{put_mid}
+use lib.ListN.{length, take, drop, length-append}
+use lib.Seq.{sets, sets-eq, length-sets}
+use Rattle.std.proofs.lemmas.List.Edits.{paste_all}
+use Rattle.std.proofs.lemmas.Slice.{put_mid-paste}
 use Rattle.rules.proofs.Lines.{sets_append}
 use Rattle.text.specs.Text.{Put}
 
@@ -39,33 +41,13 @@ pub put_at_start : {text b a : List ℕ} {e : ℕ} → Put text b 0 a e → e �
 put_at_start {text} {b} {a} {e} h room =
     h.is ∙ sets-eq text b 0 (omega (arith, h.ends)) ∙ ap (λ (n : ℕ). text ++ drop n b) (zero-add (length text))
 
--- one byte more
-pub put_byte : {x b m : List ℕ} {p q : ℕ} (byte : ℕ) → Put x b p m q → Put (x ++ (byte ∷ [])) b p (set m q byte) (q + 1)
-put_byte {x} {b} {m} {p} {q} byte h = put_then h (record { is = refl; ends = refl })
-
--- i bytes of a text are put
-pub record Copying (before : List ℕ) (place : ℕ) (text after : List ℕ) (i : ℕ) : Type 0 where
-  pub bound : i ≤ length text
-  pub room : place + length text ≤ length after
-  pub same : length after ≡ length before
-  pub done : Put (take i text) before place after (place + i)
-
-pub copy_start : {before : List ℕ} {place : ℕ} {text : List ℕ} → place + length text ≤ length before → Copying before place text before 0
-copy_start {before} {place} {text} r =
-    record { bound = zero-le; room = r; same = refl; done = rw (add-zero place) (put_none before place) }
-
-module _ {before : List ℕ} {place : ℕ} {text after : List ℕ} {i : ℕ} (h : Copying before place text after i) where
-  pub copy_next : i < length text → Copying before place text (set after (place + i) (get_or text i 0)) (i + 1)
-  copy_next b =
-      let more : Put (take i text ++ (get_or text i 0 ∷ [])) before place (set after (place + i) (get_or text i 0)) (place + i + 1) = put_byte (get_or text i 0) h.done in
-      let kept : length (set after (place + i) (get_or text i 0)) ≡ length before = put_length more in
-      let e : place + (i + 1) ≡ place + i + 1 = omega arith in
-      record {
-        bound = omega arith;
-        room = omega (arith, h.room, h.same);
-        same = kept;
-        done = rw (e, add-one i, take-suc text i 0 b) more;
-      }
-
-  pub copy_end : length text ≤ i → Put text before place after (place + i)
-  copy_end b = put_as (take_all i text b) h.done
+-- a text copied into the part of a buffer that it fills
+pub put_copied : (text before part : List ℕ) (place k : ℕ) → part ≡ text → k ≡ length text → place + length text ≤ length before
+    → Put text before place (put_mid place k before part) (place + length text)
+put_copied text before part place k same long room =
+    record {
+      is =
+          put_mid-paste place k before part text (length text) same (sym long) refl ∙ paste_all before place text (length text) refl
+          ∙ sym (sets-eq text before place room ∙ append_assoc (take place before) text (drop (place + length text) before));
+      ends = refl;
+    }

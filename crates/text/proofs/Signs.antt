@@ -2,16 +2,15 @@
 use mathlib.Core.Bool.{true, false}
 use mathlib.Core.List.{◌∷◌, [], ◌++◌}
 use mathlib.Core.Path.{◌≡◌, refl, sym, ◌∙◌, ap}
-use Prim.Native.Nat.{ℕ, suc, ◌+◌, ◌^◌, ◌≤◌, ◌<◌}
+use Prim.Native.Nat.{ℕ, suc, ◌^◌, ◌≤◌, ◌<◌}
 use native.Mathlib.Omega.{arith}
-use borrow.Author.Tests.{ltb-true, le-ltb}
-use lib.Dec.{T}
-use lib.IntN.{ℤ, pos, negsuc, nat_abs, ◌-ℤ◌}
+use borrow.Author.Tests.{ltb-true}
+use lib.IntN.{ℤ, pos, negsuc, nat_abs}
 use lib.ListN.{length}
-use lib.Signed.{mag, lt_z, non_neg}
+use lib.Signed.{mag, lt_z}
 use mir.Facts.{to_z-of_z}
 use mir.Syntax.{w64}
-use mir.Val.{Fits, SFits, to_z, of_z}
+use mir.Val.{SFits, to_z, of_z}
 use Rattle.rules.specs.Statement.{decimal, signed_decimal}
 use Rattle.rules.specs.Words.{ascii}
 use Rattle.text.proofs.Digits.{decimal_at_most}
@@ -23,10 +22,6 @@ above (negsuc n) e = let q : ◌≡◌ {A = ℕ} 0 1 = cc in absurd (omega arith
 below : (z : ℤ) → lt_z z (pos 0) ≡ true → z ≡ negsuc (mag z)
 below (pos n) e = let none : n < 0 = ltb-true n 0 e in absurd (omega arith)
 below (negsuc n) e = refl
-
--- -1 - z of a negative z
-back_above : (n : ℕ) → negsuc 0 -ℤ negsuc n ≡ pos n
-back_above n = rw (le-ltb (suc n) 1 (omega arith)) (ap pos (omega arith))
 
 -- a number with a sign has at most 19 digits
 size_at_most : (z : ℤ) → mag z < 2 ^ 63 → length (decimal (nat_abs z)) ≤ 19
@@ -44,9 +39,6 @@ module _ {z : ℤ} (f : SFits w64 z) where
     is_above : z ≡ pos (mag z)
     is_above = above z (rw (to_z-of_z f) at h)
 
-    pub plain_fits : T (non_neg (to_z w64 (of_z w64 z))) × Fits w64 (nat_abs (to_z w64 (of_z w64 z)))
-    plain_fits = rw (to_z-of_z f ∙ is_above) (tt, record { fits = omega (arith, f.sfits) })
-
     pub plain_text : {n : ℕ} → n ≡ nat_abs (to_z w64 (of_z w64 z)) → decimal n ≡ signed_decimal z
     unfolding signed_decimal
     plain_text e = ap decimal (size_is e ∙ ap nat_abs is_above) ∙ sym (ap signed_decimal is_above)
@@ -54,24 +46,6 @@ module _ {z : ℤ} (f : SFits w64 z) where
   module _ (h : lt_z (to_z w64 (of_z w64 z)) (pos 0) ≡ true) where
     is_below : z ≡ negsuc (mag z)
     is_below = below z (rw (to_z-of_z f) at h)
-
-    distance : negsuc 0 -ℤ to_z w64 (of_z w64 z) ≡ pos (mag z)
-    distance = ap (λ (y : ℤ). negsuc 0 -ℤ y) (to_z-of_z f ∙ is_below) ∙ back_above (mag z)
-
-    pub distance_fits : SFits w64 (negsuc 0 -ℤ to_z w64 (of_z w64 z))
-    distance_fits = rw distance (record { sfits = f.sfits })
-
-    bits : to_z w64 (of_z w64 (negsuc 0 -ℤ to_z w64 (of_z w64 z))) ≡ pos (mag z)
-    bits = to_z-of_z distance_fits ∙ distance
-
-    pub distance_cast : T (non_neg (to_z w64 (of_z w64 (negsuc 0 -ℤ to_z w64 (of_z w64 z))))) × Fits w64 (nat_abs (to_z w64 (of_z w64 (negsuc 0 -ℤ to_z w64 (of_z w64 z)))))
-    distance_cast = rw bits (tt, record { fits = omega (arith, f.sfits) })
-
-    pub next_fits : Fits w64 (nat_abs (to_z w64 (of_z w64 (negsuc 0 -ℤ to_z w64 (of_z w64 z)))) + 1)
-    next_fits = rw bits (record { fits = omega (arith, f.sfits) })
-
-    pub next_is : nat_abs (to_z w64 (of_z w64 (negsuc 0 -ℤ to_z w64 (of_z w64 z)))) + 1 ≡ nat_abs z
-    next_is = ap (λ (y : ℤ). nat_abs y + 1) bits ∙ omega (arith, ap nat_abs is_below)
 
     pub minus_text : {n : ℕ} → n ≡ nat_abs (to_z w64 (of_z w64 z)) → (45 ∷ []) ++ decimal n ≡ signed_decimal z
     unfolding signed_decimal ascii

@@ -121,7 +121,7 @@ pub fn put_refusal(refusal: Refusal, place: usize, out: &mut [u8]) -> usize
     ensures text { Put (refusal_line (named refusal) place) out.old 0 out.new result }
     ensures within { result ≤ longest_refusal_line }
 {
-    let number = (refusal.number()) as u64;
+    let number = refusal.number() as u64;
     let after_number = put_word_number(out, 0, b"refused ", number);
     let after_place = put_word_number(out, after_number, b" at ", place as u64);
     put_bytes(out, after_place, b"\n")
