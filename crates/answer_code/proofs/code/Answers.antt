@@ -4,8 +4,8 @@ use Rattle.answer.specs.Said.{said}
 use Rattle.answer_code.proofs.Told.{accepted_code, refused_code}
 use Rattle.answer_code.proofs.code.Goals as goal
 
-pub returns-in-Done : goal.returns-in-Done
-returns-in-Done c = accepted_code (ap said (sym c.in-Done.is))
+pub returns-in-Ok : goal.returns-in-Ok
+returns-in-Ok c = accepted_code (ap said (sym c.in-Ok.is))
 
-pub returns-in-Refused : goal.returns-in-Refused
-returns-in-Refused c = refused_code c.in-Refused.is c.number.ensures c.number_at.ensures
+pub returns-in-Err : goal.returns-in-Err
+returns-in-Err c = refused_code c.in-Err.is c.number.ensures c.number_at.ensures
