@@ -93,32 +93,29 @@ module _ {old : List ℕ} {e before whole : ℕ} {part : List ℕ} {skip skipped
       }
 
   module _ {divisor : ℕ} {out : List ℕ} {left i : ℕ} (s : Adding old e before whole part skip divisor out left i) where
-    module _ (b : i < length out) where
-      in_run : i < length old
-      in_run = omega (arith, s.filled.size)
-
+    module _ (b : i < length old) where
       pub in_part : skip + i < length part
-      in_part = omega (arith, p.run, in_run)
+      in_part = omega (arith, p.run, b)
 
       pub add_asks : Turning e (at part (skip + i)) left divisor
       add_asks = turn_asks p.spread s.standing in_part
 
-      module _ {wh rest : ℕ} (t : Turned e (at part (skip + i)) left divisor wh rest) {v : ℕ} (widened : v ≡ wh) where
-        grown : at out i + v ≡ grown_from old e before whole (at part) skip i
+      module _ {wh rest : ℕ} (t : Turned e (at part (skip + i)) left divisor wh rest) where
+        grown : at out i + wh ≡ grown_from old e before whole (at part) skip i
         unfolding grown_from
         grown = omega (arith, s.ahead.same i (omega arith), turn_gives p.spread s.standing in_part t)
 
-        pub add_fits : Room old e before whole (at part) skip → at out i + v < 2 ^ 64
+        pub add_fits : Room old e before whole (at part) skip → at out i + wh < 2 ^ 64
         unfolding Room
-        add_fits room = rw grown (room i in_run)
+        add_fits room = rw grown (room i b)
 
-        pub add_next : Adding old e before whole part skip divisor (set out i (at out i + v)) rest (i + 1)
+        pub add_next : Adding old e before whole part skip divisor (set out i (at out i + wh)) rest (i + 1)
         add_next =
             record {
               standing = stand_next p.spread s.standing in_part t (omega arith);
-              filled = fill_next s.filled in_run grown;
+              filled = fill_next s.filled b grown;
               ahead = untouched_next _ s.ahead;
             }
 
-    pub add_end : length out ≤ i → out ≡ figures (length old) (grown_from old e before whole (at part) skip)
-    add_end b = fill_end s.filled (omega (arith, s.filled.size))
+    pub add_end : length old ≤ i → out ≡ figures (length old) (grown_from old e before whole (at part) skip)
+    add_end b = fill_end s.filled b

@@ -19,13 +19,13 @@ pub loop-i-init : goal.loop-i-init
 loop-i-init c = add_start c.requires.part c.divisor_of-divisor.ensures c.product_mod-left.ensures
 
 pub overflow_add-skip : goal.overflow_add-skip
-overflow_add-skip c = omega (arith, (in_part c.requires.part c.loop-i.invariant c.loop-i-test.true))
+overflow_add-skip c = omega (arith, in_part c.requires.part c.loop-i.invariant c.loop-i-test.true)
 
 pub offset_bounds-part-skip : goal.offset_bounds-part-skip
-offset_bounds-part-skip c = omega (arith, (in_part c.requires.part c.loop-i.invariant c.loop-i-test.true))
+offset_bounds-part-skip c = omega (arith, in_part c.requires.part c.loop-i.invariant c.loop-i-test.true)
 
 pub bounds-part-skip : goal.bounds-part-skip
-bounds-part-skip c = (in_part c.requires.part c.loop-i.invariant c.loop-i-test.true)
+bounds-part-skip c = in_part c.requires.part c.loop-i.invariant c.loop-i-test.true
 
 pub hour_of-t-requires : goal.hour_of-t-requires
 unfolding at
@@ -33,11 +33,11 @@ hour_of-t-requires c = add_asks c.requires.part c.loop-i.invariant c.loop-i-test
 
 pub overflow_add-out : goal.overflow_add-out
 unfolding at
-overflow_add-out c = omega (arith, add_fits c.requires.part c.loop-i.invariant c.loop-i-test.true c.hour_of-t.ensures c.wide.ensures c.requires.room)
+overflow_add-out c = omega (arith, add_fits c.requires.part c.loop-i.invariant c.loop-i-test.true c.hour_of-t.ensures c.requires.room)
 
 pub loop-i-preserved : goal.loop-i-preserved
 unfolding at
-loop-i-preserved c = add_next c.requires.part c.loop-i.invariant c.loop-i-test.true c.hour_of-t.ensures c.wide.ensures
+loop-i-preserved c = add_next c.requires.part c.loop-i.invariant c.loop-i-test.true c.hour_of-t.ensures
 
 pub returns : goal.returns
-returns c = add_end c.requires.part c.loop-i.invariant (omega arith)
+returns c = add_end c.requires.part c.loop-i.invariant c.loop-i-test.false
