@@ -5,8 +5,8 @@ use mathlib.Core.Path.{◌≡◌, ◌∙◌, ap}
 use Prim.Native.Nat.{ℕ, ◌<◌}
 use lib.ListN.{length}
 use Rattle.answer.specs.Said.{said}
-use Rattle.answer.specs.declared.Answer.{Answer}
-use Rattle.answer.specs.declared.Answer.TheVariants.{Done}
+use Rattle.std.specs.Prelude.{Result, Ok, ⊤}
+use Rattle.answer.specs.declared.Refused.{Refused}
 use Rattle.periodise_service.specs.Promised.{Promised}
 use Rattle.rules.specs.Periodised.{periodised_figure}
 use Rattle.rules.specs.Refusals.{afterwards}
@@ -16,10 +16,10 @@ use Rattle.rules.proofs.Loops.{figures_at}
 use Rattle.rules.proofs.Periodised.{figures_add_up_to_E, nothing_over_nothing}
 use Rattle.rules.proofs.Sums.{sum_cong}
 
-module _ (e : ℕ) (weights : List ℕ) {before : List ℕ} {r : Answer} {after : List ℕ} (p : Promised e weights before r after) (done : r ≡ Done) where
+module _ (e : ℕ) (weights : List ℕ) {before : List ℕ} {r : Result ⊤ Refused} {after : List ℕ} (p : Promised e weights before r after) (done : r ≡ Ok tt) where
   given : after ≡ periodisation_figures e weights
   unfolding afterwards
-  given = p.contents ∙ ap (λ (a : Answer). afterwards (said a) (periodisation_figures e weights) before) done
+  given = p.contents ∙ ap (λ (a : Result ⊤ Refused). afterwards (said a) (periodisation_figures e weights) before) done
 
   -- the figure of each hour
   pub given_at : (k : ℕ) → k < length weights → at after k ≡ periodised_figure e 0 (sum (length weights) (at weights)) (at weights) k

@@ -6,10 +6,9 @@ use native.Mathlib.Omega.{arith}
 use borrow.Author.Tests.{eq-eqb, ne_eqb, le-leb, lt-leb, leb-true}
 use lib.Dec.{leb}
 use lib.ListN.{length}
-use Rattle.answer.specs.Said.{said}
-use Rattle.answer.specs.declared.Refusal.{Refusal}
-use Rattle.answer.specs.declared.Answer.{Answer}
-use Rattle.answer.specs.declared.Answer.TheVariants.{Done, Refused}
+use Rattle.std.specs.Prelude.{Result, Ok, Err, ⊤}
+use Rattle.answer.specs.Said.{said, verdict_of}
+use Rattle.answer.specs.declared.Refused.{Refused}
 use Rattle.rules.specs.Limits.{greatest_curve_number, greatest_energy, most_weights}
 use Rattle.rules.specs.Refusals.{curve_too_large, span_fault, energy_too_large, wrong_length, Verdict, accepted, refused, unless, and_then, first}
 use Rattle.rules.specs.Periodised.{periodised_figure}
@@ -72,8 +71,8 @@ module _ {e : ℕ} {weights : List ℕ} {lent : ℕ} (shape : Shaped e weights l
       simp
       (eq-eqb lent (length weights) shape.as_long, le-leb 1 (length weights) shape.some, le-leb (length weights) most_weights shape.few, le-leb e greatest_energy shape.fits)
 
-  pub weights_stop : {each : Answer} → said each ≡ each_checked weights → {r : Refusal} {place : ℕ} → each ≡ Refused r place → said each ≡ first (periodisation_checks e weights lent)
-  weights_stop judged h = refused_stops judged h _ ∙ sym weights_next
+  pub weights_stop : {each : Result ⊤ Refused} {r : Refused} → said each ≡ each_checked weights → each ≡ Err r → verdict_of r ≡ first (periodisation_checks e weights lent)
+  weights_stop judged h = sym (ap said h) ∙ refused_stops judged h _ ∙ sym weights_next
 
 -- and the weights, which add up to s
 pub record Summed (e : ℕ) (weights : List ℕ) (lent s : ℕ) : Type 0 where
@@ -89,11 +88,11 @@ module _ {e : ℕ} {weights : List ℕ} {lent s : ℕ} (k : Summed e weights len
       ∙ ap (λ (v : Verdict). and_then v (and_then (follow_check e (sum (length weights) (at weights))) accepted)) k.each
       ∙ ap (λ (x : ℕ). and_then (follow_check e x) accepted) (sym k.total)
 
-  module _ {follow : Answer} (follows : said follow ≡ follow_check e s) where
-    pub follow_stop : {r : Refusal} {place : ℕ} → follow ≡ Refused r place → said follow ≡ first (periodisation_checks e weights lent)
-    follow_stop h = refused_stops follows h _ ∙ sym follow_next
+  module _ {follow : Result ⊤ Refused} (follows : said follow ≡ follow_check e s) where
+    pub follow_stop : {r : Refused} → follow ≡ Err r → verdict_of r ≡ first (periodisation_checks e weights lent)
+    follow_stop h = sym (ap said h) ∙ refused_stops follows h _ ∙ sym follow_next
 
-    pub all_pass : follow ≡ Done → accepted ≡ first (periodisation_checks e weights lent)
+    pub all_pass : follow ≡ Ok tt → accepted ≡ first (periodisation_checks e weights lent)
     all_pass h = sym (follow_next ∙ done_passes follows h _)
 
   -- what the core asks
