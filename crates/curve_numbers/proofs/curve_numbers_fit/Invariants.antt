@@ -1,5 +1,4 @@
 -- `curve_numbers::curve_numbers_fit` meets its contract: what is left of the list says what the whole says. Assumes nothing.
-use Prim.Native.Nat.{◌-◌}
 use lib.ListN.{length}
 use Rattle.rules.specs.Refusals.{curve_too_large}
 use Rattle.rules.specs.Services.{check_at, curve_fits}
@@ -8,6 +7,3 @@ use Rattle.curve_numbers.proofs.curve_numbers_fit.Given as goal
 
 abbrev pub invariant-loop-t : goal.invariant-loop-t
 invariant-loop-t l = Looking (check_at l.residuals (curve_fits l.w) curve_too_large) (length l.residuals) l.t
-
-abbrev pub decreases-loop-t : goal.decreases-loop-t
-decreases-loop-t l = length l.residuals - l.t
