@@ -12,7 +12,8 @@ use lib.Signed.{non_neg}
 use mir.Syntax.{w32}
 use mir.Val.{Fits}
 use Rattle.answer.specs.Said.{said}
-use Rattle.answer.specs.declared.Answer.{Answer}
+use Rattle.std.specs.Prelude.{Result, ⊤}
+use Rattle.answer.specs.declared.Refused.{Refused}
 use Rattle.rules.specs.Flows.{residual, silent_is_zero, judged, judged_by, verdict_of, residual_wh}
 use Rattle.rules.specs.Limits.{missing, greatest_flow, greatest_residual}
 use Rattle.rules.specs.Refusals.{Refusal, out_of_range, accepted, first, in_turn}
@@ -20,7 +21,7 @@ use Rattle.rules.specs.Services.{at_ℤ, check_at, each_at, check_at_ℤ, each_a
 use Rattle.rules.specs.Words.{at, at_most, within_ℤ}
 use Rattle.rules.proofs.Refusals.{refused_not_accepted, accepted_exactly, in_turn_exactly, unless_exactly}
 use Rattle.rules.proofs.Whole.{within_size, both_pass}
-use Rattle.residual.specs.declared.Hour.{Hour}
+use Rattle.residual.specs.declared.NoResidual.{NoResidual}
 use Rattle.residual.specs.Hour.{judgement, flows_here}
 use Rattle.answer.proofs.Checks.{grouped, past}
 use Rattle.answer.proofs.Ranges.{each_at_most, each_passes}
@@ -109,7 +110,7 @@ module _ (statuses : List ℕ) (nets : List ℤ) (productions hourlies flexes : 
 
   -- one hour: what the code says of it is its check
   pub hour_said :
-      (t : ℕ) {wh z : ℤ} (hour : Hour) (here : Answer) → wh ≡ residual_here nets productions hourlies flexes t
+      (t : ℕ) {wh z : ℤ} (hour : Result ℕ NoResidual) (here : Result ⊤ Refused) → wh ≡ residual_here nets productions hourlies flexes t
       → z ≡ wh
       → judgement hour ≡ judged_by (at statuses t) z
       → said here ≡ verdict_of (judgement hour) t

@@ -5,10 +5,9 @@ use Prim.Native.Nat.{ℕ}
 use lib.IntN.{ℤ}
 use lib.ListN.{length}
 use Rattle.answer.specs.Said.{said}
-use Rattle.answer.specs.declared.Answer.{Answer}
-use Rattle.answer.specs.declared.Answer.TheVariants.{Done, Refused}
-use Rattle.answer.specs.declared.Refusal.{Refusal}
-use Rattle.answer.proofs.Checks.{pass_refuses, pass_accepts, none_left, accepted_by, unwritten}
+use Rattle.std.specs.Prelude.{Result, Ok, Err, ⊤}
+use Rattle.answer.specs.declared.Refused.{Refused}
+use Rattle.answer.proofs.Checks.{handed_refuses, pass_accepts, none_left, accepted_by, unwritten}
 use Rattle.rules.specs.Refusals.{Verdict, first, in_turn, afterwards}
 use Rattle.rules.specs.Services.{silent_check, hour_check, residual_checks, residual_figures}
 use Rattle.residual_service.specs.Passes.{residual_shape, ranges_of, SameLengths, Ranged, Judged}
@@ -26,15 +25,15 @@ module _ (statuses : List ℕ) (nets : List ℤ) (productions hourlies flexes : 
   hours = in_turn (length statuses) (hour_check statuses nets productions hourlies flexes)
 
   -- WHAT IS KNOWN once a pass has accepted, with room for so many hours
-  module _ (room : ℕ) {a : Answer} (says : said a ≡ residual_shape (length statuses) (length nets) (length productions) (length hourlies) (length flexes) room) (shaped : a ≡ Done) where
+  module _ (room : ℕ) {a : Result ⊤ Refused} (says : said a ≡ residual_shape (length statuses) (length nets) (length productions) (length hourlies) (length flexes) room) (shaped : a ≡ Ok tt) where
     pub as_long : SameLengths statuses nets productions hourlies flexes
     as_long = shape_lengths statuses nets productions hourlies flexes room (accepted_by says shaped)
 
-    module _ {b : Answer} (ranges-say : said b ≡ ranges) (in-range : b ≡ Done) where
+    module _ {b : Result ⊤ Refused} (ranges-say : said b ≡ ranges) (in-range : b ≡ Ok tt) where
       pub all_ranged : Ranged statuses nets productions hourlies flexes
       all_ranged = record { lengths = as_long; ranges = accepted_by ranges-say in-range }
 
-      pub all_judged : {e : Answer} → said e ≡ hours → e ≡ Done → Judged statuses nets productions hourlies flexes
+      pub all_judged : {e : Result ⊤ Refused} → said e ≡ hours → e ≡ Ok tt → Judged statuses nets productions hourlies flexes
       all_judged hours-say all-figures = record { ranged = all_ranged; hours = accepted_by hours-say all-figures }
 
   -- THE WAYS OUT
@@ -43,43 +42,43 @@ module _ (statuses : List ℕ) (nets : List ℤ) (productions hourlies flexes : 
     verdict = first (residual_checks statuses nets productions hourlies flexes (length lent))
 
     -- a refusal has written nothing
-    refuses : {a : Answer} {x : Refusal} {place : ℕ} → said a ≡ verdict → a ≡ Refused x place → Promised statuses nets productions hourlies flexes lent a lent
-    refuses is told = record { answer = is; contents = unwritten _ _ told }
+    refuses : {r : Result ⊤ Refused} {x : Refused} → said r ≡ verdict → r ≡ Err x → Promised statuses nets productions hourlies flexes lent r lent
+    refuses is on = record { answer = is; contents = unwritten _ _ on }
 
     -- 16; 4 of the lengths
-    module _ {a : Answer} (says : said a ≡ residual_shape (length statuses) (length nets) (length productions) (length hourlies) (length flexes) (length lent)) where
-      pub shape_refuses : {x : Refusal} {place : ℕ} → a ≡ Refused x place → Promised statuses nets productions hourlies flexes lent a lent
-      shape_refuses told = refuses (pass_refuses (ranges ∷ silent ∷ hours ∷ []) says told ∙ in_parts statuses nets productions hourlies flexes (length lent)) told
+    module _ {a : Result ⊤ Refused} (says : said a ≡ residual_shape (length statuses) (length nets) (length productions) (length hourlies) (length flexes) (length lent)) where
+      pub shape_refuses : {r : Result ⊤ Refused} {x : Refused} → a ≡ Err x → r ≡ Err x → Promised statuses nets productions hourlies flexes lent r lent
+      shape_refuses told on = refuses (handed_refuses (ranges ∷ silent ∷ hours ∷ []) says told on ∙ in_parts statuses nets productions hourlies flexes (length lent)) on
 
-      module _ (shaped : a ≡ Done) where
+      module _ (shaped : a ≡ Ok tt) where
         past_shape : {v : Verdict} → v ≡ first (ranges ∷ silent ∷ hours ∷ []) → v ≡ verdict
         past_shape h = pass_accepts (ranges ∷ silent ∷ hours ∷ []) says shaped h ∙ in_parts statuses nets productions hourlies flexes (length lent)
 
         -- 4 of the values
-        module _ {b : Answer} (ranges-say : said b ≡ ranges) where
-          pub ranges_refuse : {x : Refusal} {place : ℕ} → b ≡ Refused x place → Promised statuses nets productions hourlies flexes lent b lent
-          ranges_refuse told = refuses (past_shape (pass_refuses (silent ∷ hours ∷ []) ranges-say told)) told
+        module _ {b : Result ⊤ Refused} (ranges-say : said b ≡ ranges) where
+          pub ranges_refuse : {r : Result ⊤ Refused} {x : Refused} → b ≡ Err x → r ≡ Err x → Promised statuses nets productions hourlies flexes lent r lent
+          ranges_refuse told on = refuses (past_shape (handed_refuses (silent ∷ hours ∷ []) ranges-say told on)) on
 
-          module _ (in-range : b ≡ Done) where
+          module _ (in-range : b ≡ Ok tt) where
             past_ranges : {v : Verdict} → v ≡ first (silent ∷ hours ∷ []) → v ≡ verdict
             past_ranges h = past_shape (pass_accepts (silent ∷ hours ∷ []) ranges-say in-range h)
 
             -- 4 of the silent hours
-            module _ {d : Answer} (silent-says : said d ≡ silent) where
-              pub silent_refuses : {x : Refusal} {place : ℕ} → d ≡ Refused x place → Promised statuses nets productions hourlies flexes lent d lent
-              silent_refuses told = refuses (past_ranges (pass_refuses (hours ∷ []) silent-says told)) told
+            module _ {d : Result ⊤ Refused} (silent-says : said d ≡ silent) where
+              pub silent_refuses : {r : Result ⊤ Refused} {x : Refused} → d ≡ Err x → r ≡ Err x → Promised statuses nets productions hourlies flexes lent r lent
+              silent_refuses told on = refuses (past_ranges (handed_refuses (hours ∷ []) silent-says told on)) on
 
-              module _ (all-silent : d ≡ Done) where
+              module _ (all-silent : d ≡ Ok tt) where
                 past_silent : {v : Verdict} → v ≡ first (hours ∷ []) → v ≡ verdict
                 past_silent h = past_ranges (pass_accepts (hours ∷ []) silent-says all-silent h)
 
                 -- 7, 8, 9; and nothing left to refuse
-                module _ {e : Answer} (hours-say : said e ≡ hours) where
-                  pub hours_refuse : {x : Refusal} {place : ℕ} → e ≡ Refused x place → Promised statuses nets productions hourlies flexes lent e lent
-                  hours_refuse told = refuses (past_silent (pass_refuses [] hours-say told)) told
+                module _ {e : Result ⊤ Refused} (hours-say : said e ≡ hours) where
+                  pub hours_refuse : {r : Result ⊤ Refused} {x : Refused} → e ≡ Err x → r ≡ Err x → Promised statuses nets productions hourlies flexes lent r lent
+                  hours_refuse told on = refuses (past_silent (handed_refuses [] hours-say told on)) on
 
                   pub all_written :
-                      e ≡ Done → {out : List ℕ} → out ≡ residual_figures statuses nets productions hourlies flexes
-                      → Promised statuses nets productions hourlies flexes lent Done out
+                      e ≡ Ok tt → {out : List ℕ} → out ≡ residual_figures statuses nets productions hourlies flexes
+                      → Promised statuses nets productions hourlies flexes lent (Ok tt) out
                   unfolding afterwards
                   all_written all-figures is = record { answer = past_silent (pass_accepts [] hours-say all-figures none_left); contents = is }

@@ -2,18 +2,10 @@
 use Rattle.rules.specs.Flows.{verdict_of}
 use Rattle.residual_service.proofs.answer_of.Goals as goal
 
-pub returns-in-Figure : goal.returns-in-Figure
+pub returns-in-Ok : goal.returns-in-Ok
 unfolding verdict_of
-returns-in-Figure c = rw c.in-Figure.is
+returns-in-Ok c = rw c.in-Ok.is
 
-pub returns-in-Missing : goal.returns-in-Missing
+pub returns-in-Err : goal.returns-in-Err
 unfolding verdict_of
-returns-in-Missing c = rw c.in-Missing.is
-
-pub returns-in-Negative : goal.returns-in-Negative
-unfolding verdict_of
-returns-in-Negative c = rw c.in-Negative.is
-
-pub returns-in-TooLarge : goal.returns-in-TooLarge
-unfolding verdict_of
-returns-in-TooLarge c = rw c.in-TooLarge.is
+returns-in-Err c = rw (c.in-Err.is, c.from.ensures)

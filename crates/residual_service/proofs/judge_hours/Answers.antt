@@ -6,6 +6,7 @@ use mir.Facts.{to_z-of_z}
 use mir.Syntax.{w64}
 use mir.Val.{SFits}
 use Rattle.answer.specs.Said.{said}
+use Rattle.answer.proofs.Checks.{handed}
 use Rattle.rules.specs.Words.{at}
 use Rattle.rules.proofs.Loops.{look_start, look_pass, look_stop, look_end}
 use Rattle.residual_service.proofs.Hours.{within_limits, hour_said}
@@ -17,19 +18,19 @@ loop-t-init c = look_start _ _
 pub residual_at-wh-requires : goal.residual_at-wh-requires
 residual_at-wh-requires c = within_limits _ _ _ _ _ c.requires _ (omega arith)
 
-pub returns-in_default : goal.returns-in_default
+pub returns-in_err-answer_of : goal.returns-in_err-answer_of
 unfolding at
-returns-in_default c =
+returns-in_err-answer_of c =
     let f : SFits w64 c.residual_at-wh.result = search rules in
-    let here = hour_said c.args.statuses.now _ _ _ _ _ c.judge-hour.result c.answer_of-here.result c.residual_at-wh.ensures (to_z-of_z f) c.judge-hour.ensures c.answer_of-here.ensures in
-    ap said c.in_default.is ∙ sym (look_stop c.loop-t.invariant (omega arith) (sym here ∙ ap said c.in_default.is))
+    let here = hour_said c.args.statuses.now _ _ _ _ _ c.judge-hour.result c.answer_of.result c.residual_at-wh.ensures (to_z-of_z f) c.judge-hour.ensures c.answer_of.ensures in
+    ap said (handed c.from_residual.ensures) ∙ sym (look_stop c.loop-t.invariant (omega arith) (sym here ∙ ap said c.in_err-answer_of.was))
 
 pub loop-t-preserved : goal.loop-t-preserved
 unfolding at
 loop-t-preserved c =
     let f : SFits w64 c.residual_at-wh.result = search rules in
-    let here = hour_said c.args.statuses.now _ _ _ _ _ c.judge-hour.result c.answer_of-here.result c.residual_at-wh.ensures (to_z-of_z f) c.judge-hour.ensures c.answer_of-here.ensures in
-    look_pass c.loop-t.invariant (omega arith) (sym here ∙ ap said c.in-Done.is)
+    let here = hour_said c.args.statuses.now _ _ _ _ _ c.judge-hour.result c.answer_of.result c.residual_at-wh.ensures (to_z-of_z f) c.judge-hour.ensures c.answer_of.ensures in
+    look_pass c.loop-t.invariant (omega arith) (sym here ∙ ap said c.in_ok-answer_of.was)
 
 pub returns : goal.returns
 returns c = sym (look_end c.loop-t.invariant (omega arith))

@@ -1,5 +1,4 @@
 -- `residual_service::judge_hours` meets its contract: what is left of the hours says what the whole says. Assumes nothing.
-use Prim.Native.Nat.{◌-◌}
 use lib.ListN.{length}
 use Rattle.rules.specs.Services.{hour_check}
 use Rattle.rules.proofs.Loops.{Looking}
@@ -7,6 +6,3 @@ use Rattle.residual_service.proofs.judge_hours.Given as goal
 
 abbrev pub invariant-loop-t : goal.invariant-loop-t
 invariant-loop-t l = Looking (hour_check l.statuses l.nets l.productions l.hourlies l.flexes) (length l.statuses) l.t
-
-abbrev pub decreases-loop-t : goal.decreases-loop-t
-decreases-loop-t l = length l.statuses - l.t

@@ -1,5 +1,4 @@
 -- `residual_service::write_residuals` meets its contract: the beginning of the lent series is the residuals so far. Assumes nothing.
-use Prim.Native.Nat.{◌-◌}
 use lib.ListN.{length}
 use Rattle.rules.specs.Services.{residual_at}
 use Rattle.rules.proofs.Loops.{Filling}
@@ -7,6 +6,3 @@ use Rattle.residual_service.proofs.write_residuals.Given as goal
 
 abbrev pub invariant-loop-t : goal.invariant-loop-t
 invariant-loop-t l = Filling (residual_at l.statuses l.nets l.productions l.hourlies l.flexes) (length l.statuses) l.out l.t
-
-abbrev pub decreases-loop-t : goal.decreases-loop-t
-decreases-loop-t l = length l.statuses - l.t
