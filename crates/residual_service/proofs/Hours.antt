@@ -16,9 +16,9 @@ use Rattle.std.specs.Prelude.{Result, ⊤}
 use Rattle.answer.specs.declared.Refused.{Refused}
 use Rattle.rules.specs.Flows.{residual, silent_is_zero, judged, judged_by, verdict_of, residual_wh}
 use Rattle.rules.specs.Limits.{missing, greatest_flow, greatest_residual}
-use Rattle.rules.specs.Refusals.{Refusal, out_of_range, accepted, first, in_turn}
-use Rattle.rules.specs.Services.{at_ℤ, check_at, each_at, check_at_ℤ, each_at_ℤ, flows_of, silent_check, hour_check, residual_at, residual_checks}
-use Rattle.rules.specs.Words.{at, at_most, within_ℤ}
+use Rattle.rules.specs.Refusals.{out_of_range, accepted, first, in_turn}
+use Rattle.rules.specs.Services.{at_ℤ, flows_of, silent_check, hour_check, residual_at, residual_checks}
+use Rattle.rules.specs.Words.{at}
 use Rattle.rules.proofs.Refusals.{refused_not_accepted, accepted_exactly, in_turn_exactly, unless_exactly}
 use Rattle.rules.proofs.Whole.{within_size, both_pass}
 use Rattle.residual.specs.declared.NoResidual.{NoResidual}

@@ -40,7 +40,7 @@ write_curve-requires c =
     record {
       curve_ready = record {
         some = shape_w _ _ _ (accepted_by c.curve_shape.ensures c.in_ok-curve_shape.was);
-        fitting = (accepted_by c.curve_numbers_fit.ensures c.in_ok-curve_numbers_fit.was);
+        fitting = accepted_by c.curve_numbers_fit.ensures c.in_ok-curve_numbers_fit.was;
       };
       out_len = shape_lent _ _ _ (accepted_by c.curve_shape.ensures c.in_ok-curve_shape.was);
     }
