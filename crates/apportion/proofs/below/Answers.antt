@@ -1,9 +1,0 @@
--- `apportion::below` meets its contract, by the test that it makes. Assumes nothing.
-use borrow.Author.Tests.{lt-ltb, le-ltb}
-use Rattle.apportion.proofs.below.Goals as goal
-
-pub returns-then-a-b : goal.returns-then-a-b
-returns-then-a-b c = rw (lt-ltb _ _ c.if-a-b.true)
-
-pub returns-else-a-b : goal.returns-else-a-b
-returns-else-a-b c = rw (le-ltb _ _ c.if-a-b.false)

@@ -1,9 +1,0 @@
--- `apportion::same` meets its contract, by the test that it makes. Assumes nothing.
-use borrow.Author.Tests.{eq-eqb, ne_eqb}
-use Rattle.apportion.proofs.same.Goals as goal
-
-pub returns-then-a-b : goal.returns-then-a-b
-returns-then-a-b c = rw (eq-eqb _ _ c.if-a-b.true)
-
-pub returns-else-a-b : goal.returns-else-a-b
-returns-else-a-b c = rw (ne_eqb _ _ c.if-a-b.false)
