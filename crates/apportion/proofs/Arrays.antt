@@ -1,16 +1,18 @@
 -- Filling an array from its start, whatever its size: what stands past the filled places is still nothing.
-use mathlib.Core.List.{List}
+use mathlib.Core.List.{List, [], ◌∷◌, ◌++◌}
 use mathlib.Core.Bool.{Bool, true, false, cond}
 use mathlib.Core.Logic.{◌⊎◌, inl, inr, ⊎_elim}
-use mathlib.Core.Path.{◌≡◌, refl, sym, ◌∙◌, subst}
-use Prim.Native.Nat.{ℕ, zero, suc, ◌+◌, ◌≤◌, ◌<◌, zero-le}
+use mathlib.Core.Path.{◌≡◌, refl, sym, ◌∙◌, ap, subst}
+use Prim.Native.Nat.{ℕ, zero, suc, ◌+◌, ◌-◌, ◌≤◌, ◌<◌, zero-le}
 use native.Mathlib.Nat.{eq-or-lt_of_le, le_antisymm, not-suc-le-zero}
 use native.Mathlib.Omega.{arith}
+use borrow.Rule.Slice.PartMut.{post_of, Post-is}
 use borrow.Author.Tests.{leb-true, leb-false, ltb-true, ltb-false}
 use lib.Dec.{leb, ltb}
-use lib.ListN.{length, get_or, set, replicate, length-set, length-replicate}
-use lib.Seq.{get_or-set_same, get_or-set_other, ext_get_or}
-use Rattle.apportion.specs.Filled.{FilledOf}
+use lib.ListN.{length, get_or, set, take, drop, replicate, length-set, length-append, length-drop, length-replicate, get_or-append}
+use lib.Seq.{get_or-set_same, get_or-set_other, get_or-drop, ext_get_or, take-suc}
+use Rattle.std.proofs.lemmas.List.{get_or-append_right}
+use Rattle.apportion.specs.Filled.{FilledOf, Filled}
 use Rattle.rules.specs.Limits.{most_parties}
 use Rattle.rules.specs.Words.{figures}
 use Rattle.rules.proofs.Loops.{figures_length, figures_at}
@@ -108,3 +110,33 @@ pub upto_end : {A : Type 0} {places : ℕ} {nothing : A} {figure : ℕ → A} {n
 upto_end {places = places} {nothing = nothing} {figure = figure} {n = n} {i = i} {l = l} u b =
     let e : i ≡ n = le_antisymm u.bound b in
     subst (λ (k : ℕ). FilledOf places nothing figure k l) e u.filled
+
+-- the first part of an array of nothing written: the first n places hold a series, and the others nothing
+pub part_filled :
+    {A : Type 0} (nothing : A) (f : ℕ → A) (n : ℕ) {part : List A}
+    → n ≤ 64
+    → part ≡ figures n f
+    → Filled nothing f n (part ++ post_of 0 (n - 0) (replicate 64 nothing))
+part_filled {A} nothing f n {part} few e = rw (e, Post-is 0 n (replicate 64 nothing) (zero-le {n = n})) whole
+  where
+    whole : Filled nothing f n (figures n f ++ drop n (replicate 64 nothing))
+    whole =
+        record {
+          size =
+              length-append (figures n f) (drop n (replicate 64 nothing))
+              ∙ omega (arith, figures_length n f, length-drop n (replicate 64 nothing), length-replicate 64 nothing);
+          below =
+              λ k b. get_or-append (figures n f) (drop n (replicate 64 nothing)) nothing k (omega (arith, figures_length n f))
+              ∙ figures_at n f k nothing b;
+          past =
+              λ k b. get_or-append_right (figures n f) (drop n (replicate 64 nothing)) n k nothing (figures_length n f) b
+              ∙ get_or-drop n (replicate 64 nothing) (k - n) nothing
+              ∙ all_nothing nothing 64 (n + (k - n));
+        }
+
+-- the first n of a list, as figures of a series
+pub first_of : {A : Type 0} (nothing : A) (n : ℕ) (l : List A) → n ≤ length l → take n l ≡ figures n (λ i. get_or l i nothing)
+unfolding figures
+first_of nothing zero l b = refl
+first_of nothing (suc n) l b =
+    take-suc l n nothing b ∙ ap (λ k. k ++ (get_or l n nothing ∷ [])) (first_of nothing n l (omega arith))

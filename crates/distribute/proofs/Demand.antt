@@ -1,7 +1,6 @@
 -- DEMAND 3 of what the code gives: of a table whose figures are the definition's, of which demand 3 is proved, and so of a run of the carries' method.
 use mathlib.Core.List.{List}
-use mathlib.Core.Logic.{◌⊎◌}
-use mathlib.Core.Path.{◌≡◌, refl, sym, ◌∙◌, ap, ap₂, subst}
+use mathlib.Core.Path.{◌≡◌, refl, sym, ◌∙◌, ap, ap₂}
 use Prim.Native.Nat.{ℕ, zero, suc, ◌+◌, ◌≤◌, ◌<◌}
 use native.Mathlib.Nat.{zero-add, le_of_lt}
 use native.Mathlib.Omega.{arith}
@@ -11,7 +10,7 @@ use Rattle.distribute.specs.declared.Carries.{Carries}
 use Rattle.distribute.specs.Demand.{Demand3Of}
 use Rattle.distribute.specs.Good.{Started, Next, share_in, figure_after}
 use Rattle.distribute.proofs.Running.{running_same}
-use Rattle.rules.specs.Demands.{sum_over, sum_since_first, exact_share, down, up, Demand3}
+use Rattle.rules.specs.Demands.{sum_over, sum_since_first, Demand3}
 use Rattle.rules.specs.Distributed.{running_after, distributed_figure}
 use Rattle.rules.specs.Flows.{W}
 use Rattle.rules.specs.Words.{sum, sum_ℤ, at}

@@ -1,41 +1,49 @@
--- An hour's figures put from a place on, of any kind of number: whatever series the list is filled with, each turn fills one place more.
-use mathlib.Core.List.{List}
-use mathlib.Core.Path.{◌≡◌, refl, sym, ◌∙◌, subst}
-use Prim.Native.Nat.{ℕ, ◌+◌, ◌≤◌, ◌<◌, zero-le}
-use native.Mathlib.Nat.{add-zero, add_assoc, le_antisymm}
+-- An hour's figures copied to a place of a list, of any kind of number: whatever series the list is filled with, it is filled so many places more.
+use mathlib.Core.List.{List, [], ◌∷◌, ◌++◌, append_assoc, append-nil}
+use mathlib.Core.Path.{◌≡◌, sym, ◌∙◌, ap, ap₂}
+use Prim.Native.Nat.{ℕ, zero, suc, ◌+◌, ◌-◌, ◌≤◌}
+use native.Mathlib.Nat.{add-zero, add-suc, sub-zero}
 use native.Mathlib.Omega.{arith}
-use lib.ListN.{length, get_or, set, drop, length-set}
-use lib.Seq.{drop-set-lt}
+use borrow.Rule.Slice.PartMut.{put_mid, mid_len, same_len_mid, drop_put}
+use lib.ListN.{length, take}
+use lib.Seq.{length-take-le}
+use Rattle.std.proofs.lemmas.Slice.{take-put_mid}
+use Rattle.apportion.proofs.Arrays.{first_of}
 use Rattle.distribute.specs.Written.{FilledOn, PutOn}
-use Rattle.rules.proofs.Loops.{Filling, fill_next}
+use Rattle.rules.specs.Words.{figures}
+use Rattle.rules.proofs.Loops.{figures_cong}
 
--- A loop that has put the first i of n figures.
-pub record Putting {A : Type 0} (nothing : A) (written : List A) (n place : ℕ) (before : List A) (i : ℕ) (after : List A) : Type 0 where
-  pub bound : i ≤ n
-  pub size : length after ≡ length before
-  pub put : FilledOn nothing written i place before after
-  pub past : drop (place + n) after ≡ drop (place + n) before
+-- figures of a + b places are those of the first a, and then those of the b after them
+figures_split : {A : Type 0} (a b : ℕ) (f : ℕ → A) → figures (a + b) f ≡ figures a f ++ figures b (λ k. f (a + k))
+unfolding figures
+figures_split a zero f = rw (add-zero a) (sym (append-nil (figures a f)))
+figures_split a (suc b) f =
+    rw (add-suc a b)
+    (ap (λ l. l ++ (f (a + b) ∷ [])) (figures_split a b f) ∙ append_assoc (figures a f) (figures b (λ k. f (a + k))) (f (a + b) ∷ []))
 
-module _ {A : Type 0} {nothing : A} {written : List A} {n place : ℕ} {before : List A} where
-  pub put_start : Putting nothing written n place before 0 before
-  put_start = record { bound = zero-le; size = refl; put = none; past = refl }
-    where
-      none : FilledOn nothing written 0 place before before
-      none series size filling fits same = subst (λ (k : ℕ). Filling series size before k) (sym (add-zero place)) filling
+pub put_part :
+    {A : Type 0} {nothing : A} {written : List A} {n place : ℕ} {before part : List A}
+    → n ≤ length written
+    → place + n ≤ length before
+    → part ≡ take (n - 0) written
+    → PutOn nothing written n place before (put_mid place (place + n - place) before part)
+put_part {A} {nothing} {written} {n} {place} {before} {part} few room copied =
+    record { fills = filled; past = drop_put place (place + n) before part (omega arith) room size-of-part }
+  where
+    first-written : part ≡ take n written
+    first-written = rw sub-zero at copied
 
-  module _ {i : ℕ} {after : List A} (p : Putting nothing written n place before i after) where
-    pub put_next : i < n → Putting nothing written n place before (i + 1) (set after (place + i) (get_or written i nothing))
-    put_next b = record { bound = omega arith; size = length-set after (place + i) (get_or written i nothing) ∙ p.size; put = more; past = kept }
-      where
-        kept : drop (place + n) (set after (place + i) (get_or written i nothing)) ≡ drop (place + n) before
-        kept = drop-set-lt (place + n) after (place + i) (get_or written i nothing) (omega arith) ∙ p.past
+    size-of-part : length part ≡ place + n - place
+    size-of-part = ap length first-written ∙ length-take-le n written few ∙ omega arith
 
-        more : FilledOn nothing written (i + 1) place before (set after (place + i) (get_or written i nothing))
-        more series size filling fits same =
-            subst (λ (k : ℕ). Filling series size (set after (place + i) (get_or written i nothing)) k) (add_assoc place i 1)
-            (fill_next (p.put series size filling (omega arith) (λ j d. same j (omega arith))) (omega arith) (same i (omega arith)))
-
-    pub put_end : n ≤ i → PutOn nothing written n place before after
-    put_end b =
-        let e : i ≡ n = le_antisymm p.bound b in
-        record { fills = subst (λ (k : ℕ). FilledOn nothing written k place before after) e p.put; past = p.past }
+    filled : FilledOn nothing written n place before (put_mid place (place + n - place) before part)
+    filled series size filling fits same =
+        record {
+          bound = fits;
+          size = same_len_mid place (place + n - place) before part (size-of-part ∙ sym (mid_len place (place + n) before room)) ∙ filling.size;
+          done =
+              take-put_mid place (place + n - place) before part (place + n) (omega (arith, size-of-part)) (omega arith)
+              ∙ ap₂ (λ xs ys. xs ++ ys) filling.done
+              (first-written ∙ first_of nothing n written few ∙ figures_cong n same)
+              ∙ sym (figures_split place n series);
+        }

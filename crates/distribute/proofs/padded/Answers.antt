@@ -1,16 +1,15 @@
--- `distribute::padded` meets its contract: the first i places hold the first i shares. Assumes nothing.
-use Rattle.apportion.proofs.Arrays.{upto_start, upto_next, upto_end}
+-- `distribute::padded` meets its contract: the first places of an array of nothing are copied from the shares. Assumes nothing.
+use mathlib.Core.Path.{sym, ◌∙◌}
+use lib.ListN.{length}
+use lib.Seq.{take_all}
+use native.Mathlib.Nat.{le_refl}
+use Rattle.apportion.proofs.Arrays.{part_filled, first_of}
 use Rattle.rules.specs.Words.{at}
-use mathlib.Core.Path.{refl}
-use native.Mathlib.Omega.{arith}
 use Rattle.distribute.proofs.padded.Goals as goal
 
-pub loop-i-init : goal.loop-i-init
-loop-i-init c = upto_start 0 _ _
-
-pub loop-i-preserved : goal.loop-i-preserved
-unfolding at
-loop-i-preserved c = upto_next c.loop-i.invariant (omega arith) (omega arith) (refl)
-
 pub returns : goal.returns
-returns c = upto_end c.loop-i.invariant (omega arith)
+unfolding at
+returns c =
+    let shares = c.args.shares.now in
+    part_filled 0 _ _ c.requires
+    (c.copy_from_slice.ensures.after ∙ sym (take_all (length shares) shares (le_refl _)) ∙ first_of 0 (length shares) shares (le_refl _))
