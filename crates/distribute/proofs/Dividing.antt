@@ -4,7 +4,6 @@ use mathlib.Core.Path.{◌≡◌}
 use Prim.Native.Nat.{ℕ, ◌+◌, ◌≤◌, ◌<◌}
 use lib.ListN.{set, replicate}
 use Rattle.apportion.proofs.Arrays.{Upto, upto_start, upto_next, upto_end}
-use Rattle.distribute.specs.declared.Divided.{Divided}
 use Rattle.distribute.specs.Parts.{quotient_by, rest_by, DividedBy}
 use Rattle.rules.specs.Limits.{most_parties}
 

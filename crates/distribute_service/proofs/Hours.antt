@@ -1,12 +1,12 @@
 -- The hours of a distribution one after the other: the list is filled hour by hour.
 use mathlib.Core.List.{List}
-use mathlib.Core.Path.{◌≡◌, refl, sym, ◌∙◌, ap, ap₂, subst}
+use mathlib.Core.Path.{◌≡◌, sym, ◌∙◌, ap, ap₂, subst}
 use Prim.Native.Nat.{ℕ, zero, suc, ◌+◌, ◌*◌, ◌/◌, ◌%◌, ◌≤◌, ◌<◌, zero-le}
-use native.Mathlib.Nat.{add-zero, zero-mul, add_assoc, le_antisymm, mul-le-mul, mul-le-mul_right, mul-add-div_right, mul-add-mod_self_right, div-eq_of_lt, mod-eq_of_lt}
+use native.Mathlib.Nat.{add-zero, zero-mul, le_antisymm, mul-le-mul, mul-le-mul_right, mul-add-div_right, mul-add-mod_self_right, div-eq_of_lt, mod-eq_of_lt}
 use native.Mathlib.Numerals.{add-one}
 use native.Mathlib.Omega.{arith}
 use lib.IntN.{ℤ, pos, ◌-ℤ◌}
-use lib.ListN.{length, get_or, set, length-set}
+use lib.ListN.{length, get_or}
 use Rattle.distribute.specs.declared.Carries.{Carries}
 use Rattle.apportion.specs.Filled.{Filled}
 use Rattle.distribute.specs.Good.{Good, Started, Ready, Next, share_in, figure_after}
@@ -16,8 +16,8 @@ use Rattle.distribute_service.specs.Service.{Distributable}
 use Rattle.rules.specs.Distributed.{running_after, distributed_figure}
 use Rattle.rules.specs.Limits.{greatest_residual}
 use Rattle.rules.specs.Services.{distributed_at, distribution_figures}
-use Rattle.rules.specs.Words.{sum, at, figures}
-use Rattle.rules.proofs.Loops.{Filling, fill_start, fill_next, fill_end}
+use Rattle.rules.specs.Words.{sum, at}
+use Rattle.rules.proofs.Loops.{Filling, fill_start, fill_end}
 
 -- The loop over the hours: after t of them the list holds their figures, and the carries are those of their residuals.
 pub record Distributing (shares residuals : List ℕ) (lent : List ℤ) (c : Carries) (place t : ℕ) : Type 0 where

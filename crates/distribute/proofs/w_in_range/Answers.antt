@@ -11,8 +11,8 @@ total-w-requires c = (search rules, shares_add_up c.requires c.padded-share.ensu
 
 pub returns-then-not-w : goal.returns-then-not-w
 unfolding w_verdict
-returns-then-not-w c = sym (stops _ _ (w_tested c.requires c.padded-share.ensures c.total-w.ensures) c.if-not-w.true-raw)
+returns-then-not-w c = sym (stops _ _ (w_tested c.requires c.padded-share.ensures c.total-w.ensures) (search rules))
 
 pub returns : goal.returns
 unfolding w_verdict
-returns c = sym (passes _ _ (w_tested c.requires c.padded-share.ensures c.total-w.ensures) c.if-not-w.false-raw)
+returns c = sym (passes _ _ (w_tested c.requires c.padded-share.ensures c.total-w.ensures) (search rules))
