@@ -1,4 +1,3 @@
 pub mod Bounds
-pub mod Choosing
 pub mod ByCarries
 pub mod Widening

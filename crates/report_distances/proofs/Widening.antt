@@ -1,14 +1,13 @@
 -- A loop that has the smaller and the larger of the first i of n parties.
 use mathlib.Core.List.{List}
-use mathlib.Core.Path.{◌≡◌, ◌∙◌, ap₂}
+use mathlib.Core.Path.{◌≡◌, ◌∙◌}
 use Prim.Native.Nat.{ℕ, ◌+◌, ◌≤◌, ◌<◌}
+use native.Mathlib.Omega.{arith}
 use lib.IntN.{ℤ, pos}
 use lib.ListN.{get_or, set, replicate}
-use mir.Facts.{to_z-of_z}
-use mir.Syntax.{w64}
-use mir.Val.{SFits, to_z, of_z}
+use Rattle.std.specs.Int.{int_min, int_max}
+use Rattle.std.proofs.lemmas.Int.{ints}
 use Rattle.apportion.proofs.Arrays.{Upto, upto_start, upto_next, upto_end}
-use Rattle.report_distances.specs.declared.Distances.{Distances}
 use Rattle.report_distances.specs.Extremes.{smaller_in, larger_in, Widened}
 use Rattle.rules.specs.HoursReport.{smaller, larger}
 use Rattle.rules.specs.Limits.{most_parties}
@@ -21,26 +20,21 @@ pub record Widening (least most here : List ℤ) (n i : ℕ) (smallest largest :
 pub widen_start : (least most here : List ℤ) (n : ℕ) → Widening least most here n 0 (replicate most_parties (pos 0)) (replicate most_parties (pos 0))
 widen_start least most here n = record { small = upto_start (pos 0) _ n; large = upto_start (pos 0) _ n }
 
--- what the code chose of the bits of two figures
-pub chosen_is :
-    (choose : ℤ → ℤ → ℤ) {kept here chosen : ℤ}
-    → SFits w64 kept
-    → SFits w64 here
-    → SFits w64 chosen
-    → chosen ≡ choose (to_z w64 (of_z w64 kept)) (to_z w64 (of_z w64 here))
-    → to_z w64 (of_z w64 chosen) ≡ choose kept here
-chosen_is choose f g h is = to_z-of_z h ∙ is ∙ ap₂ choose (to_z-of_z f) (to_z-of_z g)
+-- of equal ones it does not matter which
+larger_is : (kept here : ℤ) → int_max kept here ≡ larger kept here
+unfolding larger
+larger_is kept here = grind (arith, ints)
 
 module _ {least most here : List ℤ} {n i : ℕ} {smallest largest : List ℤ} (w : Widening least most here n i smallest largest) where
   pub widen_next :
       i < n
       → n ≤ most_parties
       → {s l : ℤ}
-      → s ≡ smaller (get_or least i (pos 0)) (get_or here i (pos 0))
-      → l ≡ larger (get_or most i (pos 0)) (get_or here i (pos 0))
+      → s ≡ int_min (get_or least i (pos 0)) (get_or here i (pos 0))
+      → l ≡ int_max (get_or most i (pos 0)) (get_or here i (pos 0))
       → Widening least most here n (i + 1) (set smallest i s) (set largest i l)
-  unfolding smaller_in larger_in at_ℤ
-  widen_next b few s l = record { small = upto_next w.small b few s; large = upto_next w.large b few l }
+  unfolding smaller_in larger_in at_ℤ smaller
+  widen_next b few s l = record { small = upto_next w.small b few s; large = upto_next w.large b few (l ∙ larger_is _ _) }
 
   pub widen_end : n ≤ i → Widened least most here n (record { smallest = smallest; largest = largest })
   widen_end b = record { smallest = upto_end w.small b; largest = upto_end w.large b }

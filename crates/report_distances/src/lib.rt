@@ -7,7 +7,6 @@ ghost use Rattle.std.specs.Prelude.{◌≡◌, ℕ, ◌≤◌, ◌<◌, pos};
 ghost use Rattle.apportion.specs.Filled.{Filled};
 ghost use Rattle.distribute.specs.Good.{Good};
 ghost use Rattle.report_distances.specs.Extremes.{distance_of, Near, distance_by, Widened, no_distances, With};
-ghost use Rattle.rules.specs.HoursReport.{smaller, larger};
 ghost use Rattle.rules.specs.Limits.{most_parties};
 ghost use Rattle.rules.specs.Words.{at};
 

@@ -1,10 +1,6 @@
 -- `report_distances::widened` meets its contract: the first i places hold the smaller and the larger of the first i. Assumes nothing.
-use Prim.Native.Nat.{◌-◌}
 use Rattle.report_distances.proofs.Widening.{Widening}
 use Rattle.report_distances.proofs.widened.Given as goal
 
 abbrev pub invariant-loop-i : goal.invariant-loop-i
 invariant-loop-i l = Widening l.least l.most l.here l.n l.i l.smallest l.largest
-
-abbrev pub decreases-loop-i : goal.decreases-loop-i
-decreases-loop-i l = l.n - l.i
