@@ -32,9 +32,9 @@ pub fn check(part: &[u8]) -> Option<u64>
     }
     let mut number: u64 = 0;
     let mut weighted: u64 = 0;
-    for (i, digit) in part.iter().enumerate() {
+    for (i, byte) in part.iter().enumerate() {
         let position = limits::GLN_DIGITS - i;
-        let byte = *digit;
+        let byte = *byte;
         if byte < b'0' {
             return None;
         }

@@ -2,8 +2,5 @@
 use Rattle.gln.proofs.Walk.{Walking}
 use Rattle.gln.proofs.check.Given as goal
 
-abbrev pub invariant-loop-position : goal.invariant-loop-position
-invariant-loop-position l = Walking l.part l.number l.weighted l.position
-
-abbrev pub decreases-loop-position : goal.decreases-loop-position
-decreases-loop-position l = l.position
+abbrev pub invariant-loop-i : goal.invariant-loop-i
+invariant-loop-i l = Walking l.part l.number l.weighted l.i
