@@ -10,8 +10,8 @@ pub fn number_at(s: &[u8], at: usize, width: usize) -> u64
     ensures bound { result < 256 ^ width }
 {
     let mut number: u64 = 0;
-    for k in 0..width {
-        number = number * 256 + s[at + k] as u64;
+    for byte in &s[at..at + width] {
+        number = number * 256 + *byte as u64;
     }
     number
 }
