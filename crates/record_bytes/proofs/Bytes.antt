@@ -1,12 +1,13 @@
 -- Fields as bytes, written: a loop over them keeps that what is left to write, on what is written, gives the whole.
-use mathlib.Core.List.{List, [], ◌∷◌, ◌++◌}
+use mathlib.Core.List.{List, [], ◌∷◌, ◌++◌, append_assoc}
 use mathlib.Core.Path.{◌≡◌, refl, sym, ◌∙◌, ap, ap₂}
 use Prim.Native.Nat.{ℕ, suc, ◌+◌, ◌-◌, ◌/◌, ◌%◌, ◌≤◌, ◌<◌, zero-le}
-use native.Mathlib.Nat.{add-zero, add-suc}
+use native.Mathlib.Nat.{add-zero}
 use native.Mathlib.Numerals.{add-one}
 use native.Mathlib.Omega.{arith}
+use borrow.Rule.Slice.PartMut.{put_mid, Post-is}
 use lib.ListN.{length, get_or, drop, set, length-set, drop_of_length-le}
-use lib.Seq.{sets, length-sets, drop-cons, set_comm}
+use lib.Seq.{sets, sets-eq, length-sets, drop-cons, set_comm}
 use Rattle.record_bytes.specs.Fields.{glue, total}
 use Rattle.rules.specs.Record.{bytes_of}
 use Rattle.rules.proofs.Lines.{sets_append}
@@ -99,26 +100,6 @@ unfolding glue
 glue_end {d₀} {ws} {vs} {d} {p} {i} h b =
     ap (λ (x : List ℕ). sets d p (glue x (drop i vs))) (sym (drop_of_length-le ws b)) ∙ h.done
 
--- i bytes are copied
-pub record Copying (d₀ : List ℕ) (p : ℕ) (bytes d : List ℕ) (i : ℕ) : Type 0 where
-  pub bound : i ≤ length bytes
-  pub room : p + length bytes ≤ length d
-  pub same : length d ≡ length d₀
-  pub done : sets d (p + i) (drop i bytes) ≡ sets d₀ p bytes
-
-pub copy_start : {d₀ : List ℕ} {p : ℕ} {bytes : List ℕ} → p + length bytes ≤ length d₀ → Copying d₀ p bytes d₀ 0
-copy_start {d₀} {p} {bytes} r = record { bound = zero-le; room = r; same = refl; done = ap (λ (k : ℕ). sets d₀ k bytes) (add-zero p) }
-
-pub copy_next : {d₀ : List ℕ} {p : ℕ} {bytes d : List ℕ} {i : ℕ} → Copying d₀ p bytes d i → i < length bytes
-    → Copying d₀ p bytes (set d (p + i) (get_or bytes i 0)) (i + 1)
-copy_next {d₀} {p} {bytes} {d} {i} h b =
-    rw (add-one i)
-    (record {
-      bound = b;
-      room = rw length-set h.room;
-      same = length-set d (p + i) (get_or bytes i 0) ∙ h.same;
-      done = rw (add-suc p i) (ap (sets d (p + i)) (sym (drop-cons bytes i 0 b)) ∙ h.done);
-    })
-
-pub copy_end : {d₀ : List ℕ} {p : ℕ} {bytes d : List ℕ} {i : ℕ} → Copying d₀ p bytes d i → length bytes ≤ i → d ≡ sets d₀ p bytes
-copy_end {d₀} {p} {bytes} {d} {i} h b = ap (sets d (p + i)) (sym (drop_of_length-le bytes b)) ∙ h.done
+-- a part that was lent, put back with other bytes
+pub copied : (d bytes : List ℕ) (p : ℕ) {part : List ℕ} → p + length bytes ≤ length d → part ≡ bytes → put_mid p (p + length bytes - p) d part ≡ sets d p bytes
+copied d bytes p r e = rw (e, Post-is p (p + length bytes) d (omega arith), sets-eq bytes d p r, append_assoc)

@@ -1,11 +1,6 @@
 -- `record_bytes::fields::put_all` meets its contract: the numbers left, on what is written, give the whole. Assumes nothing.
-use lib.ListN.{length}
-use Prim.Native.Nat.{◌-◌}
 use Rattle.record_bytes.proofs.Bytes.{Gluing}
 use Rattle.record_bytes.proofs.fields.put_all.Given as goal
 
 abbrev pub invariant-loop-i : goal.invariant-loop-i
 invariant-loop-i l = Gluing l.initial.d l.widths l.values l.d l.at l.i
-
-abbrev pub decreases-loop-i : goal.decreases-loop-i
-decreases-loop-i l = length l.widths - l.i

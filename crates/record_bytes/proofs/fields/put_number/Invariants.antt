@@ -4,6 +4,3 @@ use Rattle.record_bytes.proofs.fields.put_number.Given as goal
 
 abbrev pub invariant-loop-k : goal.invariant-loop-k
 invariant-loop-k l = Putting l.initial.d l.at l.width l.value l.d l.left l.k
-
-abbrev pub decreases-loop-k : goal.decreases-loop-k
-decreases-loop-k l = l.k
