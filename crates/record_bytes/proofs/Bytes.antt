@@ -1,7 +1,7 @@
 -- Fields as bytes, written: a loop over them keeps that what is left to write, on what is written, gives the whole.
 use mathlib.Core.List.{List, [], ◌∷◌, ◌++◌, append_assoc}
 use mathlib.Core.Path.{◌≡◌, refl, sym, ◌∙◌, ap, ap₂}
-use Prim.Native.Nat.{ℕ, suc, ◌+◌, ◌-◌, ◌/◌, ◌%◌, ◌≤◌, ◌<◌, zero-le}
+use Prim.Native.Nat.{ℕ, suc, ◌+◌, ◌-◌, ◌/◌, ◌%◌, ◌≤◌, ◌<◌}
 use native.Mathlib.Nat.{add-zero}
 use native.Mathlib.Numerals.{add-one}
 use native.Mathlib.Omega.{arith}
@@ -22,13 +22,12 @@ sets_last d p (y ∷ xs) x =
 
 -- the low bytes of a number are written, k are left
 pub record Putting (d₀ : List ℕ) (p width value : ℕ) (d : List ℕ) (left k : ℕ) : Type 0 where
-  pub bound : k ≤ width
   pub room : p + width ≤ length d
   pub same : length d ≡ length d₀
   pub done : sets d p (bytes_of k left) ≡ sets d₀ p (bytes_of width value)
 
 pub put_start : {d₀ : List ℕ} {p width : ℕ} (value : ℕ) → p + width ≤ length d₀ → Putting d₀ p width value d₀ value width
-put_start {d₀} {p} {width} value r = record { bound = omega arith; room = r; same = refl; done = refl }
+put_start {d₀} {p} {width} value r = record { room = r; same = refl; done = refl }
 
 pub put_next : {d₀ : List ℕ} {p width value : ℕ} {d : List ℕ} {left k : ℕ} → Putting d₀ p width value d left k → 0 < k
     → Putting d₀ p width value (set d (p + (k - 1)) (left % 256)) (left / 256) (k - 1)
@@ -37,7 +36,6 @@ put_next {d₀} {p} {width} {value} {d} {left} {k} h b =
     let e : k ≡ suc (k - 1) = omega arith in
     let l : length (bytes_of (k - 1) (left / 256)) ≡ k - 1 = bytes_length (k - 1) (left / 256) in
     record {
-      bound = omega (arith, h.bound);
       room = rw length-set h.room;
       same = length-set d (p + (k - 1)) (left % 256) ∙ h.same;
       done = ap (λ (m : ℕ). sets (set d (p + m) (left % 256)) p (bytes_of (k - 1) (left / 256))) (sym l)
@@ -55,14 +53,13 @@ put_end {d₀} {p} {width} {value} {d} {left} {k} h b =
 
 -- i numbers of a list are written
 pub record Gluing (d₀ ws vs d : List ℕ) (p i : ℕ) : Type 0 where
-  pub bound : i ≤ length ws
   pub pairs : length ws ≡ length vs
   pub room : p + total (drop i ws) ≤ length d
   pub same : length d ≡ length d₀
   pub done : sets d p (glue (drop i ws) (drop i vs)) ≡ sets d₀ 0 (glue ws vs)
 
 pub glue_start : {d₀ ws vs : List ℕ} → length ws ≡ length vs → total ws ≤ length d₀ → Gluing d₀ ws vs d₀ 0 0
-glue_start e r = record { bound = zero-le; pairs = e; room = omega arith; same = refl; done = refl }
+glue_start e r = record { pairs = e; room = omega arith; same = refl; done = refl }
 
 module _ {d₀ ws vs d : List ℕ} {p i : ℕ} (h : Gluing d₀ ws vs d p i) (b : i < length ws) where
   width_here : drop i ws ≡ get_or ws i 0 ∷ drop (suc i) ws
@@ -85,7 +82,6 @@ module _ {d₀ ws vs d : List ℕ} {p i : ℕ} (h : Gluing d₀ ws vs d p i) (b 
       let s : length d' ≡ length d = ap length e ∙ length-sets d p (bytes_of (get_or ws i 0) (get_or vs i 0)) in
       rw (add-one i)
       (record {
-        bound = b;
         pairs = h.pairs;
         room = omega (arith, room_after);
         same = s ∙ h.same;
