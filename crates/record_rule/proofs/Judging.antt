@@ -2,19 +2,19 @@
 use mathlib.Core.Bool.{Bool, true, false, cond, not, ◌&&◌}
 use mathlib.Core.List.{List, [], ◌∷◌}
 use mathlib.Core.Path.{◌≡◌, refl, sym, ◌∙◌, ap, ap₂}
-use Prim.Native.Nat.{ℕ, zero, suc, ◌≤◌, ◌<◌}
+use Prim.Native.Nat.{ℕ, suc, ◌≤◌, ◌<◌}
 use native.Mathlib.Omega.{arith}
-use borrow.Author.Tests.{lt-ltb, le-ltb, le-leb, lt-leb}
-use lib.Dec.{leb, ltb, eqb, leb-zero, leb-suc-zero, eqb-suc-zero}
+use borrow.Author.Tests.{ne_eqb, lt-ltb, le-ltb, le-leb, lt-leb}
+use lib.Dec.{leb, ltb, eqb, eqb-suc-zero}
 use lib.IntN.{ℤ, pos, negsuc, nat_abs}
 use lib.Signed.{le_z}
 use mir.Facts.{to_z-of_z}
 use mir.Syntax.{w64}
 use mir.Val.{SFits, to_z, of_z}
+use Rattle.std.specs.Prelude.{Some, None}
+use Rattle.std.specs.Option.{is_some}
 use Rattle.answer.proofs.Checks.{flag_off, flag_on}
 use Rattle.gln.specs.Gln.{gln_answer}
-use Rattle.gln.specs.declared.Gln.{Gln}
-use Rattle.gln.specs.declared.Gln.TheVariants.{Valid, Invalid}
 use Rattle.record.specs.Record.{heading_of, flows_of, Glns, glns, no_glns, glns_in}
 use Rattle.record_rule.specs.Judged.{fault_of}
 use Rattle.record.specs.declared.Record.{Record}
@@ -37,14 +37,10 @@ pub within_bits : (most : ℕ) (z : ℤ) → SFits w64 z → le_z (negsuc most) 
 unfolding within_ℤ
 within_bits most z f = rw (to_z-of_z f)
 
--- neither above nor below 0 is 0
-zero_test : (z : ℤ) → le_z (pos 0) z && le_z z (pos 0) ≡ eqb (nat_abs z) 0
-zero_test (pos zero) = refl
-zero_test (pos (suc n)) = rw (leb-zero (suc n), leb-suc-zero n, eqb-suc-zero n)
-zero_test (negsuc n) = sym (eqb-suc-zero n)
-
-pub zero_bits : (z : ℤ) → SFits w64 z → le_z (pos 0) (to_z w64 (of_z w64 z)) && le_z (to_z w64 (of_z w64 z)) (pos 0) ≡ eqb (nat_abs z) 0
-zero_bits z f = rw (to_z-of_z f) (zero_test z)
+-- the bits of 0 are 0, and no others are
+pub zero_bits : (z : ℤ) → SFits w64 z → eqb (of_z w64 z) 0 ≡ eqb (nat_abs z) 0
+zero_bits (pos n) f = refl
+zero_bits (negsuc n) f = rw (eqb-suc-zero n) (ne_eqb (of_z w64 (negsuc n)) 0 (λ e. omega (arith, f.sfits)))
 
 -- an hour field, and the hour's flows
 pub hour_is : (hours hour : ℕ) (f : CFlows.Flows) {t : Bool} → t ≡ flows_in_range (flows_of f) && silent_is_zero (flows_of f) → ltb hour hours && t ≡ hour_in_range hours hour (flows_of f)
@@ -115,21 +111,13 @@ no_gln_looked_at hours parties place beside other (RefixedHour hour f) t = refl
 no_gln_looked_at hours parties place beside other (End count) t = refl
 
 -- whether a GLN is valid, as the check tells it
-pub valid_is : (bytes : List ℕ) {g : Gln} → g ≡ gln_answer bytes → {n : ℕ} → g ≡ Valid n → true ≡ valid_gln bytes
+pub valid_is : (bytes : List ℕ) → is_some (gln_answer bytes) ≡ valid_gln bytes
 unfolding gln_answer
-valid_is bytes tested {n} is = go (valid_gln bytes) (sym is ∙ tested)
+valid_is bytes = go (valid_gln bytes)
   where
-    go : (v : Bool) → Valid n ≡ cond v (Valid (digits_onto 0 bytes)) Invalid → true ≡ v
-    go true same = refl
-    go false same = absurd (let z : ◌≡◌ {A = ℕ} 0 1 = cc in omega arith)
-
-pub invalid_is : (bytes : List ℕ) {g : Gln} → g ≡ gln_answer bytes → g ≡ Invalid → false ≡ valid_gln bytes
-unfolding gln_answer
-invalid_is bytes tested is = go (valid_gln bytes) (sym is ∙ tested)
-  where
-    go : (v : Bool) → Invalid ≡ cond v (Valid (digits_onto 0 bytes)) Invalid → false ≡ v
-    go true same = absurd (let z : ◌≡◌ {A = ℕ} 0 1 = cc in omega arith)
-    go false same = refl
+    go : (v : Bool) → is_some (cond v (Some (digits_onto 0 bytes)) None) ≡ v
+    go true = refl
+    go false = refl
 
 -- 4 and 5 of a party, test by test
 module _ (beside : Glns) (brp : CBrp.Brp) (share place : ℕ) where

@@ -4,15 +4,14 @@ use mathlib.Core.Path.{◌≡◌, sym, ◌∙◌, ap}
 use Prim.Native.Nat.{ℕ, ◌+◌, ◌≤◌, ◌<◌}
 use borrow.Author.Tests.{le-leb, lt-leb}
 use lib.ListN.{length}
-use Rattle.answer.specs.Said.{named, said}
-use Rattle.answer.specs.declared.Answer as A
-use Rattle.answer.specs.declared.Answer.TheVariants.{Done, Refused}
-use Rattle.answer.specs.declared.Refusal as A'
+use Rattle.std.specs.Prelude.{Result, Ok, Err, ⊤}
+use Rattle.answer.specs.Said.{said}
+use Rattle.answer.specs.declared.Refused.{Refused}
 use Rattle.record.specs.Record.{Whole, record_of, glns_in}
 use Rattle.record.specs.declared.Record as C
-use Rattle.record_rule.specs.Judged.{fault_of}
+use Rattle.record_rule.specs.Judged.{fault_of, told}
 use Rattle.rules.specs.Record.{Record, body_length, known, kind_at, record_at, alone, checks, read_alone}
-use Rattle.rules.specs.Refusals.{Verdict, Answer, given, refusal, file_fault, unknown_kind, unless, and_then, first, answer}
+use Rattle.rules.specs.Refusals.{Verdict, given, refusal, file_fault, unknown_kind, unless, and_then, first, answer}
 use Rattle.rules.specs.Limits.{most_hours, most_parties}
 
 module _ (s : List ℕ) where
@@ -42,7 +41,7 @@ module _ (s : List ℕ) where
             rw (le-leb 1 (length s) some, le-leb 1 (body_length (kind_at s)) kind, le-leb (1 + body_length (kind_at s)) (length s) fits)
 
         -- what the rule of the fields says of the decoded record is the answer
-        module _ (r : C.Record) (decoded : record_of (glns_in s) r ≡ record_at s) (a : A.Answer) (fault : said a ≡ fault_of most_hours most_parties (glns_in s) r 0) where
+        module _ (r : C.Record) (decoded : record_of (glns_in s) r ≡ record_at s) (a : Result ⊤ Refused) (fault : said a ≡ fault_of most_hours most_parties (glns_in s) r 0) where
           told_by : answer (said a) (record_of (glns_in s) r) ≡ read_alone s
           unfolding fault_of
           told_by =
@@ -50,10 +49,10 @@ module _ (s : List ℕ) where
               ∙ ap (λ (x : Record). answer (first (checks alone x)) x) decoded
               ∙ judged
 
-          pub whole_record : a ≡ Done → given (record_of (glns_in s) r) ≡ read_alone s
+          pub whole_record : {done : ⊤} → a ≡ Ok done → given (record_of (glns_in s) r) ≡ read_alone s
           unfolding answer
-          whole_record e = ap (λ (x : A.Answer). answer (said x) (record_of (glns_in s) r)) (sym e) ∙ told_by
+          whole_record e = ap (λ (x : Result ⊤ Refused). answer (said x) (record_of (glns_in s) r)) (sym e) ∙ told_by
 
-          pub faulty_record : {x : A'.Refusal} {place : ℕ} → a ≡ Refused x place → refusal (named x) place ≡ read_alone s
+          pub faulty_record : {x : Refused} {b : Result C.Record Refused} → a ≡ Err x → b ≡ Err x → told (glns_in s) b ≡ read_alone s
           unfolding answer
-          faulty_record e = ap (λ (x : A.Answer). answer (said x) (record_of (glns_in s) r)) (sym e) ∙ told_by
+          faulty_record e on = ap (told (glns_in s)) on ∙ ap (λ (y : Result ⊤ Refused). answer (said y) (record_of (glns_in s) r)) (sym e) ∙ told_by

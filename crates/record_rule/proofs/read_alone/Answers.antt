@@ -2,6 +2,7 @@
 use Rattle.rules.specs.Words.{at}
 use Rattle.rules.specs.Record.{kind_at}
 use native.Mathlib.Omega.{arith}
+use Rattle.answer.proofs.Checks.{handed}
 use Rattle.record_rule.proofs.ReadOne.{nothing_there, no_kind, cut_short, stands_whole, whole_record, faulty_record}
 use Rattle.record_rule.proofs.read_alone.Goals as goal
 
@@ -20,14 +21,15 @@ pub decode-r-requires : goal.decode-r-requires
 unfolding kind_at at
 decode-r-requires c = stands_whole _ (omega arith) (omega (arith, c.body_length-body.ensures)) (omega (arith, c.body_length-body.ensures))
 
-pub returns-in-Done : goal.returns-in-Done
+pub returns-in_err-fault_of_part : goal.returns-in_err-fault_of_part
 unfolding kind_at at
-returns-in-Done c =
-    whole_record _ (omega arith) (omega (arith, c.body_length-body.ensures)) (omega (arith, c.body_length-body.ensures)) _ c.decode-r.ensures _ c.fault_of_part-a.ensures
-    c.in-Done.is
+returns-in_err-fault_of_part c =
+    faulty_record _ (omega arith) (omega (arith, c.body_length-body.ensures)) (omega (arith, c.body_length-body.ensures)) _ c.decode-r.ensures _ c.fault_of_part.ensures
+    c.in_err-fault_of_part.was
+    (handed c.from_residual.ensures)
 
-pub returns-in-Refused : goal.returns-in-Refused
+pub returns : goal.returns
 unfolding kind_at at
-returns-in-Refused c =
-    faulty_record _ (omega arith) (omega (arith, c.body_length-body.ensures)) (omega (arith, c.body_length-body.ensures)) _ c.decode-r.ensures _ c.fault_of_part-a.ensures
-    c.in-Refused.is
+returns c =
+    whole_record _ (omega arith) (omega (arith, c.body_length-body.ensures)) (omega (arith, c.body_length-body.ensures)) _ c.decode-r.ensures _ c.fault_of_part.ensures
+    c.in_ok-fault_of_part.was
