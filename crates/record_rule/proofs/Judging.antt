@@ -1,5 +1,5 @@
 -- The rule of a record's fields stands once: what the code tests of the fields, with the GLN tested already, is what the rules test.
-use mathlib.Core.Bool.{Bool, true, false, cond, not, ◌&&◌}
+use mathlib.Core.Bool.{Bool, true, false, cond, ◌&&◌}
 use mathlib.Core.List.{List, [], ◌∷◌}
 use mathlib.Core.Path.{◌≡◌, refl, sym, ◌∙◌, ap, ap₂}
 use Prim.Native.Nat.{ℕ, suc, ◌≤◌, ◌<◌}
@@ -13,7 +13,6 @@ use mir.Syntax.{w64}
 use mir.Val.{SFits, to_z, of_z}
 use Rattle.std.specs.Prelude.{Some, None}
 use Rattle.std.specs.Option.{is_some}
-use Rattle.answer.proofs.Checks.{flag_off, flag_on}
 use Rattle.gln.specs.Gln.{gln_answer}
 use Rattle.record.specs.Record.{heading_of, flows_of, Glns, glns, no_glns, glns_in}
 use Rattle.record_rule.specs.Judged.{fault_of}
@@ -129,20 +128,20 @@ module _ (beside : Glns) (brp : CBrp.Brp) (share place : ℕ) where
   share_above h = rw (lt-leb share greatest_share h)
 
   module _ (right : share ≤ greatest_share) {t : Bool} (tested : t ≡ valid_gln beside.gln) where
-    pub gln_bad : not t ≡ true → refused gln_fault place ≡ party_fault
+    pub gln_bad : t ≡ false → refused gln_fault place ≡ party_fault
     unfolding fault_of checks first and_then unless
-    gln_bad bad = rw (le-leb share greatest_share right, sym tested, flag_off t bad)
+    gln_bad bad = rw (le-leb share greatest_share right, sym tested, bad)
 
-    module _ (valid : not t ≡ false) where
+    module _ (valid : t ≡ true) where
       -- a party that is its own BRP has no other GLN
       pub own_brp_lem : brp ≡ Own → accepted ≡ party_fault
       unfolding fault_of checks first and_then unless
-      own_brp_lem is = rw (is, le-leb share greatest_share right, sym tested, flag_on t valid)
+      own_brp_lem is = rw (is, le-leb share greatest_share right, sym tested, valid)
 
       pub named_brp_lem : brp ≡ Named → {v : Verdict} {b : Bool} → v ≡ unless b gln_fault place → b ≡ valid_gln beside.brp_gln → v ≡ party_fault
       unfolding fault_of checks first and_then unless
       named_brp_lem is {v} {b} says brp-tested =
-          rw (is, le-leb share greatest_share right, sym tested, flag_on t valid)
+          rw (is, le-leb share greatest_share right, sym tested, valid)
           (says ∙ ap (λ (x : Bool). cond x accepted (refused gln_fault place)) brp-tested ∙ sym (then_accepted (cond (valid_gln beside.brp_gln) accepted (refused gln_fault place))))
 
 -- 4, 11 and 12 of a reading, test by test

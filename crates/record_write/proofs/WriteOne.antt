@@ -11,17 +11,16 @@ use lib.IntN.{ℤ}
 use lib.ListN.{length, drop}
 use lib.Seq.{sets, sets-eq}
 use lib.Signed.{mag}
-use Rattle.answer.specs.Said.{named, said}
-use Rattle.answer.specs.declared.Answer as A
-use Rattle.answer.specs.declared.Answer.TheVariants.{Done, Refused}
-use Rattle.answer.specs.declared.Refusal as A'
+use Rattle.std.specs.Prelude.{Result, Ok, Err, ⊤}
+use Rattle.answer.specs.Said.{said}
+use Rattle.answer.specs.declared.Refused.{Refused}
 use Rattle.record.specs.Record.{record_of, Glns, brp_of, kind_of_brp}
 use Rattle.record.specs.declared.Brp as CBrp
 use Rattle.record.specs.declared.Brp.TheVariants.{Own, Named}
 use Rattle.record.specs.declared.Record as C
 use Rattle.record.specs.declared.Record.TheVariants.{Heading, Party, FixedHour, Reading, Price, RefixedHour, End}
 use Rattle.record_rule.specs.Judged.{fault_of}
-use Rattle.record_write.specs.Writing.{kind_of, Writable, room_for, WrittenUnder}
+use Rattle.record_write.specs.Writing.{kind_of, Writable, room_for, wrote, WrittenUnder}
 use Rattle.rules.specs.Accepted.{NoneRefuses}
 use Rattle.rules.specs.Limits.{most_hours, most_parties, greatest_price, gln_digits}
 use Rattle.rules.specs.Record as RRecord
@@ -103,23 +102,23 @@ verdict_is r out =
     first_append (checks alone r) (unless (leb (length (record_bytes r)) (length out)) wrong_length 0 ∷ [])
     ∙ ap (and_then (first (checks alone r))) (then_room (unless (leb (length (record_bytes r)) (length out)) wrong_length 0))
 
-module _ (beside : Glns) (r : C.Record) (out : List ℕ) (a : A.Answer) (fault : said a ≡ fault_of most_hours most_parties beside r 0) where
+module _ (beside : Glns) (r : C.Record) (out : List ℕ) (a : Result ⊤ Refused) (fault : said a ≡ fault_of most_hours most_parties beside r 0) where
   checked : said a ≡ first (checks alone (record_of beside r))
   unfolding fault_of
   checked = fault
 
-  pub no_fault : a ≡ Done → first (checks alone (record_of beside r)) ≡ accepted
+  pub no_fault : {done : ⊤} → a ≡ Ok done → first (checks alone (record_of beside r)) ≡ accepted
   no_fault e = sym checked ∙ ap said e
 
   verdict_by : write_verdict (record_of beside r) (length out) ≡ and_then (said a) (room_for (record_of beside r) out)
   verdict_by = verdict_is (record_of beside r) out ∙ ap (λ (v : Verdict). and_then v (room_for (record_of beside r) out)) (sym checked)
 
-  pub verdict_of_room : a ≡ Done → {w : Answer ℕ} {after : List ℕ} → WrittenUnder (record_of beside r) out (room_for (record_of beside r) out) w after
+  pub verdict_of_room : {done : ⊤} → a ≡ Ok done → {w : Answer ℕ} {after : List ℕ} → WrittenUnder (record_of beside r) out (room_for (record_of beside r) out) w after
       → WrittenUnder (record_of beside r) out (write_verdict (record_of beside r) (length out)) w after
   unfolding and_then
   verdict_of_room e h = rw (verdict_by, e) h
 
-  pub verdict_of_fault : {x : A'.Refusal} {place : ℕ} → a ≡ Refused x place
-      → WrittenUnder (record_of beside r) out (write_verdict (record_of beside r) (length out)) (refusal (named x) place) out
+  pub verdict_of_fault : {x : Refused} {w : Result ℕ Refused} → a ≡ Err x → w ≡ Err x
+      → WrittenUnder (record_of beside r) out (write_verdict (record_of beside r) (length out)) (wrote w) out
   unfolding and_then answer afterwards
-  verdict_of_fault e = rw (verdict_by, e) (refl, refl)
+  verdict_of_fault e on = rw (verdict_by, e, on) (refl, refl)

@@ -7,13 +7,13 @@ pub returns-then-share-gt-GREATEST_SHARE_KWH : goal.returns-then-share-gt-GREATE
 returns-then-share-gt-GREATEST_SHARE_KWH c = share_above _ _ _ _ c.if-share-gt-GREATEST_SHARE_KWH.true
 
 pub returns-then-not-gln_valid : goal.returns-then-not-gln_valid
-returns-then-not-gln_valid c = gln_bad _ _ _ _ (omega arith) c.gln_valid.ensures c.if-not-gln_valid.true-raw
+returns-then-not-gln_valid c = gln_bad _ _ _ _ (omega arith) c.gln_valid.ensures c.if-not-gln_valid.true
 
 pub returns-in-Own : goal.returns-in-Own
-returns-in-Own c = own_brp_lem _ _ _ _ (omega arith) c.gln_valid.ensures c.if-not-gln_valid.false-raw c.in-Own.is
+returns-in-Own c = own_brp_lem _ _ _ _ (omega arith) c.gln_valid.ensures c.if-not-gln_valid.false c.in-Own.is
 
 pub returns-in-Named : goal.returns-in-Named
 returns-in-Named c =
-    named_brp_lem _ _ _ _ (omega arith) c.gln_valid.ensures c.if-not-gln_valid.false-raw c.in-Named.is
+    named_brp_lem _ _ _ _ (omega arith) c.gln_valid.ensures c.if-not-gln_valid.false c.in-Named.is
     c.unless.ensures
     c.gln_valid-in-Named.ensures
