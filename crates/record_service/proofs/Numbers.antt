@@ -1,11 +1,11 @@
 -- A list of numbers as a record's fields: the signs are right where no number left is wrong, and a number is held in its field as the nearest that fits.
-use mathlib.Core.Bool.{Bool, true, false, cond, not, ◌&&◌, ◌||◌}
+use mathlib.Core.Bool.{Bool, true, false, cond, ◌&&◌, ◌||◌}
 use mathlib.Core.List.{List}
 use mathlib.Core.Path.{◌≡◌, refl, sym, ◌∙◌, ap}
 use Prim.Native.Nat.{ℕ, suc, ◌+◌, ◌≤◌, ◌<◌, zero-le}
 use native.Mathlib.Numerals.{add-one}
 use native.Mathlib.Omega.{arith}
-use borrow.Author.Tests.{le-leb, lt-leb, not-true, not-false}
+use borrow.Author.Tests.{le-leb, lt-leb}
 use lib.Dec.{eqb, leb, leb-suc-suc}
 use lib.IntN.{ℤ, pos, negsuc, nat_abs}
 use lib.ListN.{length, get_or, drop, drop_of_length-le}
@@ -59,28 +59,24 @@ module _ {z : ℤ} (f : SFits w64 z) (most : ℕ) where
 
 -- the signs of the numbers from place i on say what all say
 pub record Signing (signed : ℕ) (numbers : List ℤ) (i : ℕ) : Type 0 where
-  pub bound : i ≤ length numbers
   pub left : signs_from signed i (drop i numbers) ≡ signs_from signed 0 numbers
 
 pub sign_start : (signed : ℕ) (numbers : List ℤ) → Signing signed numbers 0
-sign_start signed numbers = record { bound = zero-le; left = refl }
+sign_start signed numbers = record { left = refl }
 
-module _ {signed : ℕ} {numbers : List ℤ} {i : ℕ} (h : Signing signed numbers i) (b : i < length numbers) (f : SFits w64 (get_or numbers i (pos 0)))
-    {t : Bool} (test : t ≡ le_z (pos 0) (to_z w64 (of_z w64 (get_or numbers i (pos 0))))) where
-  here : (eqb i signed || t) && signs_from signed (suc i) (drop (suc i) numbers) ≡ signs_from signed 0 numbers
+module _ {signed : ℕ} {numbers : List ℤ} {i : ℕ} (h : Signing signed numbers i) (b : i < length numbers) where
+  abbrev right_here : Bool
+  right_here = eqb i signed || le_z (pos 0) (get_or numbers i (pos 0))
+
+  here : right_here && signs_from signed (suc i) (drop (suc i) numbers) ≡ signs_from signed 0 numbers
   unfolding signs_from
-  here =
-      ap (λ (x : Bool). (eqb i signed || x) && signs_from signed (suc i) (drop (suc i) numbers)) (test ∙ ap (le_z (pos 0)) (to_z-of_z f))
-      ∙ ap (signs_from signed i) (sym (drop-cons numbers i (pos 0) b))
-      ∙ h.left
+  here = ap (signs_from signed i) (sym (drop-cons numbers i (pos 0) b)) ∙ h.left
 
-  pub sign_wrong : not (eqb i signed || t) ≡ true → false ≡ signs_from signed 0 numbers
-  sign_wrong e = ap (λ (x : Bool). x && signs_from signed (suc i) (drop (suc i) numbers)) (sym (not-true (eqb i signed || t) e)) ∙ here
+  pub sign_wrong : right_here ≡ false → false ≡ signs_from signed 0 numbers
+  sign_wrong e = ap (λ (x : Bool). x && signs_from signed (suc i) (drop (suc i) numbers)) (sym e) ∙ here
 
-  pub sign_next : not (eqb i signed || t) ≡ false → Signing signed numbers (i + 1)
-  sign_next e =
-      rw (add-one i)
-      (record { bound = b; left = ap (λ (x : Bool). x && signs_from signed (suc i) (drop (suc i) numbers)) (sym (not-false (eqb i signed || t) e)) ∙ here })
+  pub sign_next : right_here ≡ true → Signing signed numbers (i + 1)
+  sign_next e = rw (add-one i) (record { left = ap (λ (x : Bool). x && signs_from signed (suc i) (drop (suc i) numbers)) (sym e) ∙ here })
 
 pub sign_end : {signed : ℕ} {numbers : List ℤ} {i : ℕ} → Signing signed numbers i → length numbers ≤ i → true ≡ signs_from signed 0 numbers
 unfolding signs_from

@@ -1,10 +1,10 @@
 -- The plain entry point: each test of the list is one of the rule's, and then the writer's own verdict counts.
-use mathlib.Core.Bool.{Bool, true, false, not, ◌&&◌}
+use mathlib.Core.Bool.{Bool, true, false, ◌&&◌}
 use mathlib.Core.List.{List}
 use mathlib.Core.Path.{◌≡◌, refl, sym, ◌∙◌, ap, subst}
 use Prim.Native.Nat.{ℕ, ◌≤◌, ◌<◌}
 use native.Mathlib.Omega.{arith}
-use borrow.Author.Tests.{le-leb, lt-leb, eq-eqb, ne_eqb, not-true, not-false, eqb-true}
+use borrow.Author.Tests.{le-leb, lt-leb, eq-eqb, ne_eqb, eqb-true}
 use lib.Dec.{eqb, leb}
 use lib.IntN.{ℤ, nat_abs}
 use lib.ListN.{length}
@@ -33,14 +33,14 @@ module _ (kind : ℕ) (numbers : List ℤ) {n : ℕ} (count : n ≡ field_count 
     all_signs : signs_from (signed_place kind) 0 numbers ≡ b
     all_signs = sym (signs ∙ ap (λ (q : ℕ). signs_from q 0 numbers) place)
 
-    pub wrong_sign : not b ≡ true → false ≡ list_right kind numbers
+    pub wrong_sign : b ≡ false → false ≡ list_right kind numbers
     unfolding list_right
-    wrong_sign e = rw (lengths, all_signs, not-true b e)
+    wrong_sign e = rw (lengths, all_signs, e)
 
-    module _ (e : not b ≡ false) where
+    module _ (e : b ≡ true) where
       pub by_its_fields : {t : Bool} → t ≡ fields_held kind numbers → t ≡ list_right kind numbers
       unfolding list_right
-      by_its_fields q = q ∙ rw (lengths, all_signs, not-false b e)
+      by_its_fields q = q ∙ rw (lengths, all_signs, e)
 
 -- what has room in its bytes, kind by kind
 module _ (kind : ℕ) (numbers : List ℤ) where
@@ -104,17 +104,17 @@ module _ (kind : ℕ) (numbers : List ℤ) (beside : Glns) (out : List ℕ) wher
     as_ruled : stand_in (fields_of record_is) numbers && fields_hold kind numbers ≡ b
     as_ruled = sym (list ∙ right_as_the_rules numbers beside kind has)
 
-    pub wrong_list : not b ≡ true → {a : Answer ℕ} → a ≡ refusal out_of_range 0 → Written_so a out
+    pub wrong_list : b ≡ false → {a : Answer ℕ} → a ≡ refusal out_of_range 0 → Written_so a out
     unfolding plain_verdict first and_then unless answer afterwards
-    wrong_list e is = (rw (has, as_ruled, not-true b e) is, rw (has, as_ruled, not-true b e) refl)
+    wrong_list e is = (rw (has, as_ruled, e) is, rw (has, as_ruled, e) refl)
 
-    module _ (e : not b ≡ false) where
+    module _ (e : b ≡ true) where
       passed : plain_verdict_lem ≡ write_verdict record_is (length out)
       unfolding plain_verdict first and_then unless
-      passed = rw (has, as_ruled, not-false b e) (then_accepted (write_verdict record_is (length out)))
+      passed = rw (has, as_ruled, e) (then_accepted (write_verdict record_is (length out)))
 
       held_count : fields_hold kind numbers ≡ true
-      held_count = (both_true (stand_in (fields_of record_is) numbers) (fields_hold kind numbers) (as_ruled ∙ not-false b e)).1
+      held_count = (both_true (stand_in (fields_of record_is) numbers) (fields_hold kind numbers) (as_ruled ∙ e)).1
 
       -- the writer's promise of the record as it is held is that of the record itself
       of_the_record : (v : Verdict) → first (checks alone record_is) ≡ v → {a : Answer ℕ} {after : List ℕ}

@@ -9,7 +9,7 @@ returns-then-numbers-field_count c = wrong_length_lem c.args.sort c.args.numbers
 pub returns-then-not-signs_right : goal.returns-then-not-signs_right
 returns-then-not-signs_right c =
     wrong_sign c.args.sort c.args.numbers.now c.field_count.ensures
-    c.if-numbers-field_count.false c.signed_place.ensures c.signs_right.ensures c.if-not-signs_right.true-raw
+    c.if-numbers-field_count.false c.signed_place.ensures c.signs_right.ensures c.if-not-signs_right.true
 
 pub fields_hold-requires : goal.fields_hold-requires
 fields_hold-requires c = c.if-numbers-field_count.false ∙ c.field_count.ensures
@@ -18,4 +18,4 @@ pub returns : goal.returns
 returns c =
     by_its_fields c.args.sort c.args.numbers.now c.field_count.ensures
     c.if-numbers-field_count.false c.signed_place.ensures c.signs_right.ensures
-    c.if-not-signs_right.false-raw c.fields_hold.ensures
+    c.if-not-signs_right.false c.fields_hold.ensures

@@ -1,5 +1,4 @@
 -- `record_service::write_plain` meets its contract: the kind, the list, and then the writer. Assumes nothing.
-use borrow.Author.Tests.{not-false}
 use mathlib.Core.Path.{refl, sym, ◌∙◌}
 use native.Mathlib.Omega.{arith}
 use Rattle.record.specs.Record.{glns}
@@ -20,14 +19,14 @@ list_right-requires c = has_body _ (omega (arith, c.body_length.ensures))
 pub returns-then-not-list_right : goal.returns-then-not-list_right
 returns-then-not-list_right c =
     wrong_list c.args.kind c.args.numbers.now (glns c.args.gln.now c.args.brp_gln.now) c.args.out.now
-    (has_body _ (omega (arith, c.body_length.ensures))) c.list_right.ensures c.if-not-list_right.true-raw refl
+    (has_body _ (omega (arith, c.body_length.ensures))) c.list_right.ensures c.if-not-list_right.true refl
 
 pub record_of-r-requires : goal.record_of-r-requires
-record_of-r-requires c = (has_body _ (omega (arith, c.body_length.ensures)), right_length _ _ (sym c.list_right.ensures ∙ not-false _ c.if-not-list_right.false-raw))
+record_of-r-requires c = (has_body _ (omega (arith, c.body_length.ensures)), right_length _ _ (sym c.list_right.ensures ∙ c.if-not-list_right.false))
 
 pub returns : goal.returns
 returns c =
     written_plain c.args.kind c.args.numbers.now (glns c.args.gln.now c.args.brp_gln.now) c.args.out.now
     (has_body _ (omega (arith, c.body_length.ensures)))
-    c.list_right.ensures c.if-not-list_right.false-raw
+    c.list_right.ensures c.if-not-list_right.false
     (rw c.record_of-r.ensures at c.write.ensures)
