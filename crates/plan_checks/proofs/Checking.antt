@@ -10,11 +10,10 @@ use native.Mathlib.Omega.{arith}
 use borrow.Author.Tests.{eq-eqb, ne_eqb, le-leb, lt-leb, eqb-true}
 use lib.Dec.{eqb, leb, ltb}
 use lib.ListN.{length}
+use Rattle.std.specs.Prelude.{Result, Ok, Err, ⊤}
 use Rattle.answer.specs.Said.{said}
-use Rattle.answer.specs.declared.Answer.{Answer}
-use Rattle.answer.specs.declared.Answer.TheVariants.{Done, Refused}
-use Rattle.answer.specs.declared.Refusal as A
-use Rattle.answer.proofs.Checks.{flag_off, flag_on, test_refuses, test_passes, none_left, pass_refuses, pass_accepts, last_check, accepted_by, grouped, passes, stops}
+use Rattle.answer.specs.declared.Refused.{Refused}
+use Rattle.answer.proofs.Checks.{flag_off, flag_on, test_refuses, test_passes, none_left, handed_refuses, pass_accepts, last_check, accepted_by, grouped, passes, stops}
 use Rattle.plan_checks.specs.Handed.{handed, of_parties, of_span, of_curves, PartsInside}
 use Rattle.rules.specs.Limits.{most_months, most_weights, greatest_energy, greatest_curve_number}
 use Rattle.rules.specs.Plan.{LongReading, month_count, month_start, part_from, part_to, part_hours, reading_hours, hours_verdict, party_verdict, part_verdict, weight_verdict}
@@ -138,16 +137,16 @@ module _ (parties hours curves : List ℕ) where
       as_many : length parties ≡ length hours
       as_many = eqb-true (length parties) (length hours) both.0
 
-      module _ (months : Answer) (months-say : said months ≡ in_turn (length hours) (hours_verdict (of_span 0 0 hours))) where
+      module _ (months : Result ⊤ Refused) (months-say : said months ≡ in_turn (length hours) (hours_verdict (of_span 0 0 hours))) where
         each_hours : said months ≡ in_turn (length hours) (hours_verdict lists)
         unfolding hours_verdict
         each_hours = months-say
 
-        pub months_refused : {x : A.Refusal} {place : ℕ} → months ≡ Refused x place → said months ≡ first (list_checks lists)
+        pub months_refused : {x : Refused} {r : Result ⊤ Refused} → months ≡ Err x → r ≡ Err x → said r ≡ first (list_checks lists)
         unfolding list_checks month_count
-        months_refused told = test_passes out_of_range 0 _ (sym shape ∙ flag_on t shaped) (pass_refuses _ each_hours told)
+        months_refused told on = test_passes out_of_range 0 _ (sym shape ∙ flag_on t shaped) (handed_refuses _ each_hours told on)
 
-        module _ (passed : months ≡ Done) {n : ℕ} (all : n ≡ month_start (of_span 0 0 hours) (length hours)) where
+        module _ {given : ⊤} (passed : months ≡ Ok given) {n : ℕ} (all : n ≡ month_start (of_span 0 0 hours) (length hours)) where
           all_same : n ≡ month_start lists (length hours)
           unfolding month_start
           all_same = all
@@ -167,12 +166,12 @@ module _ (parties hours curves : List ℕ) where
               (say ∙ ap (λ (k : ℕ). in_turn k (party_verdict lists)) as_many ∙ last_check _)))
 
 -- 11, BY THE SPAN
-module _ (a b : ℕ) (hours : List ℕ) (parts : Answer) (say : said parts ≡ in_turn (length hours) (part_verdict (of_span a b hours))) where
-  pub parts_refused : {x : A.Refusal} {place : ℕ} → parts ≡ Refused x place → said parts ≡ first (span_checks (of_span a b hours))
+module _ (a b : ℕ) (hours : List ℕ) (parts : Result ⊤ Refused) (say : said parts ≡ in_turn (length hours) (part_verdict (of_span a b hours))) where
+  pub parts_refused : {x : Refused} {r : Result ⊤ Refused} → parts ≡ Err x → r ≡ Err x → said r ≡ first (span_checks (of_span a b hours))
   unfolding span_checks month_count
-  parts_refused told = pass_refuses _ say told
+  parts_refused told on = handed_refuses _ say told on
 
-  module _ (passed : parts ≡ Done) where
+  module _ {given : ⊤} (passed : parts ≡ Ok given) where
     pub parts_inside : length hours ≤ most_months → PartsInside a b hours
     parts_inside few =
         record {
@@ -197,16 +196,16 @@ module _ (e a b : ℕ) (parties hours curves : List ℕ) where
   abbrev after_span : List Verdict
   after_span = unless (leb e greatest_energy) energy_too_large 0 ∷ in_turn (length curves) (weight_verdict whole) ∷ []
 
-  module _ (l : Answer) (lists-say : said l ≡ first (list_checks (handed 0 0 0 parties hours curves))) where
+  module _ (l : Result ⊤ Refused) (lists-say : said l ≡ first (list_checks (handed 0 0 0 parties hours curves))) where
     of_lists : said l ≡ first (list_checks whole)
     unfolding list_checks month_count month_start hours_verdict party_verdict
     of_lists = lists-say
 
-    pub lists_refused : {x : A.Refusal} {place : ℕ} → l ≡ Refused x place → said l ≡ first (handed_checks whole)
+    pub lists_refused : {x : Refused} {r : Result ⊤ Refused} → l ≡ Err x → r ≡ Err x → said r ≡ first (handed_checks whole)
     unfolding handed_checks
-    lists_refused told = pass_refuses (span_checks whole ++ after_span) of_lists told ∙ grouped (list_checks whole) (span_checks whole ++ after_span)
+    lists_refused told on = handed_refuses (span_checks whole ++ after_span) of_lists told on ∙ grouped (list_checks whole) (span_checks whole ++ after_span)
 
-    module _ (listed : l ≡ Done) where
+    module _ {given : ⊤} (listed : l ≡ Ok given) where
       pub few_months : length hours ≤ most_months
       unfolding list_checks month_count
       few_months = (shape_says whole ((accepted_exactly (list_checks whole)).0 (accepted_by of_lists listed)).0).2
@@ -215,15 +214,15 @@ module _ (e a b : ℕ) (parties hours curves : List ℕ) where
       unfolding handed_checks
       past_lists h = pass_accepts (span_checks whole ++ after_span) of_lists listed h ∙ grouped (list_checks whole) (span_checks whole ++ after_span)
 
-      module _ (s : Answer) (span-says : said s ≡ first (span_checks (of_span a b hours))) where
+      module _ (s : Result ⊤ Refused) (span-says : said s ≡ first (span_checks (of_span a b hours))) where
         of_span_lem : said s ≡ first (span_checks whole)
         unfolding span_checks month_count part_verdict part_from part_to reading_hours part_hours
         of_span_lem = span-says
 
-        pub span_refused : {x : A.Refusal} {place : ℕ} → s ≡ Refused x place → said s ≡ first (handed_checks whole)
-        span_refused told = past_lists (pass_refuses after_span of_span_lem told ∙ grouped (span_checks whole) after_span)
+        pub span_refused : {x : Refused} {r : Result ⊤ Refused} → s ≡ Err x → r ≡ Err x → said r ≡ first (handed_checks whole)
+        span_refused told on = past_lists (handed_refuses after_span of_span_lem told on ∙ grouped (span_checks whole) after_span)
 
-        module _ (spanned : s ≡ Done) where
+        module _ {too : ⊤} (spanned : s ≡ Ok too) where
           past_span : {v : Verdict} → v ≡ first after_span → v ≡ first (handed_checks whole)
           past_span h = past_lists (pass_accepts after_span of_span_lem spanned h ∙ grouped (span_checks whole) after_span)
 

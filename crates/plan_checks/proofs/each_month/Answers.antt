@@ -7,16 +7,16 @@ use Rattle.rules.specs.Plan.{hours_verdict}
 use Rattle.rules.specs.Words.{at, within}
 use Rattle.plan_checks.proofs.each_month.Goals as goal
 
-pub loop-k-init : goal.loop-k-init
-loop-k-init c = look_start _ _
+pub loop-h-init : goal.loop-h-init
+loop-h-init c = look_start _ _
 
 pub returns-then-not-h : goal.returns-then-not-h
 unfolding hours_verdict within at
-returns-then-not-h c = sym (look_stop c.loop-k.invariant (omega arith) (stops _ _ refl c.if-not-h.true-raw))
+returns-then-not-h c = sym (look_stop c.loop-h.invariant (omega arith) (stops _ _ refl c.if-not-h.true-raw))
 
-pub loop-k-preserved : goal.loop-k-preserved
+pub loop-h-preserved : goal.loop-h-preserved
 unfolding hours_verdict within at
-loop-k-preserved c = look_pass c.loop-k.invariant (omega arith) (passes _ _ refl c.if-not-h.false-raw)
+loop-h-preserved c = look_pass c.loop-h.invariant (omega arith) (passes _ _ refl c.if-not-h.false-raw)
 
 pub returns : goal.returns
-returns c = sym (look_end c.loop-k.invariant (omega arith))
+returns c = sym (look_end c.loop-h.invariant (omega arith))

@@ -1,13 +1,9 @@
 -- `plan_checks::each_month` meets its contract: the first month of another length is refused, at place 0. Assumes nothing.
-use Prim.Native.Nat.{◌-◌}
 use lib.ListN.{length}
 use Rattle.plan_checks.specs.Handed.{of_span}
 use Rattle.rules.proofs.Loops.{Looking}
 use Rattle.rules.specs.Plan.{hours_verdict}
 use Rattle.plan_checks.proofs.each_month.Given as goal
 
-abbrev pub invariant-loop-k : goal.invariant-loop-k
-invariant-loop-k l = Looking (hours_verdict (of_span 0 0 l.hours)) (length l.hours) l.k
-
-abbrev pub decreases-loop-k : goal.decreases-loop-k
-decreases-loop-k l = length l.hours - l.k
+abbrev pub invariant-loop-h : goal.invariant-loop-h
+invariant-loop-h l = Looking (hours_verdict (of_span 0 0 l.hours)) (length l.hours) l.h-index

@@ -1,5 +1,4 @@
 -- `plan_checks::reading_hours` meets its contract: what was added so far is the hours of the parts before. Assumes nothing.
-use Prim.Native.Nat.{◌-◌}
 use lib.ListN.{length}
 use Rattle.plan_checks.proofs.Checking.{Counting}
 use Rattle.plan_checks.specs.Handed.{of_span}
@@ -8,6 +7,3 @@ use Rattle.plan_checks.proofs.reading_hours.Given as goal
 
 abbrev pub invariant-loop-k : goal.invariant-loop-k
 invariant-loop-k l = Counting (part_hours (of_span l.a l.b l.hours)) (length l.hours) l.sum l.k
-
-abbrev pub decreases-loop-k : goal.decreases-loop-k
-decreases-loop-k l = length l.hours - l.k
