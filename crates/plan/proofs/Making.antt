@@ -7,15 +7,14 @@ use native.Mathlib.Numerals.{add-one}
 use native.Mathlib.Omega.{arith}
 use lib.ListN.{length, take, drop, set, replicate, length-drop}
 use lib.Seq.{get_or-take, get_or-drop, length-take-le}
-use Rattle.answer.specs.Said.{named, said}
-use Rattle.answer.specs.declared.Answer.{Answer}
-use Rattle.answer.specs.declared.Answer.TheVariants.{Done, Refused}
-use Rattle.answer.specs.declared.Refusal as A
+use Rattle.std.specs.Prelude.{Result, Ok, Err, ⊤}
+use Rattle.answer.specs.Said.{said}
+use Rattle.answer.specs.declared.Refused.{Refused}
 use Rattle.answer.specs.declared.Refusal.TheVariants.{NothingToFollow}
-use Rattle.answer.proofs.Checks.{last_check, accepted_by, passes, stops}
+use Rattle.answer.proofs.Checks.{refused_stops, done_passes, last_check, accepted_by, passes, stops}
 use Rattle.apportion.proofs.Arrays.{UptoOf, upto_start, upto_next, upto_end, filled_in_full}
-use Rattle.plan.specs.Planning.{of_all, MakingAsked, no_reading, record_of, entry_of, Nothing}
-use Rattle.plan.specs.Promised.{months_under, PlannedUnder, Promised}
+use Rattle.plan.specs.Planning.{of_all, MakingAsked, no_reading, record_of, entry_of}
+use Rattle.plan.specs.Promised.{RecordsOf, Promised}
 use Rattle.plan.specs.declared.Planned.{Planned}
 use Rattle.plan_checks.specs.Handed.{handed, of_span, PartsInside}
 use Rattle.record.specs.declared.Over.TheVariants.{ManyMonths}
@@ -24,7 +23,7 @@ use Rattle.rules.specs.Limits.{most_months, greatest_energy}
 use Rattle.rules.specs.Month.{follows_whole}
 use Rattle.rules.specs.Plan.{LongReading, month_count, month_start, curve_of_month, part_from, part_to, part_hours, part_weight, planned_before, planned_whole, reading_hours}
 use Rattle.rules.specs.Plan.{handed_checks, plan_checks}
-use Rattle.rules.specs.Refusals.{nothing_to_follow, Verdict, accepted, refused, unless, and_then, first, afterwards}
+use Rattle.rules.specs.Refusals.{nothing_to_follow, Verdict, unless, and_then, first}
 use Rattle.rules.specs.Words.{sum, at, figures}
 use Rattle.rules.proofs.Plan.{Weighed, Plannable, plannable, whole_is, within_curves, whole_fits, part_weighs}
 use Rattle.rules.proofs.Refusals.{accepted_exactly, first_append}
@@ -74,19 +73,19 @@ module _ (e a b : ℕ) (parties hours curves : List ℕ) (k : ℕ) where
   abbrev long : LongReading
   long = handed e a b parties hours curves
 
-  pub from_of : {f v : ℕ} → f ≡ part_from (of_span a 0 []) k → v ≡ f → v ≡ part_from long k
+  pub from_of : {f : ℕ} → f ≡ part_from (of_span a 0 []) k → f ≡ part_from long k
   unfolding part_from
-  from_of f-is v-is = v-is ∙ f-is
+  from_of f-is = f-is
 
-  pub to_of : {t v : ℕ} → t ≡ part_to (of_span 0 b hours) k → v ≡ t → v ≡ part_to long k
+  pub to_of : {t : ℕ} → t ≡ part_to (of_span 0 b hours) k → t ≡ part_to long k
   unfolding part_to month_count
-  to_of t-is v-is = v-is ∙ t-is
+  to_of t-is = t-is
 
   -- and its record
   pub record_made : {f t before whole : ℕ} → f ≡ part_from (of_span a 0 []) k → t ≡ part_to (of_span 0 b hours) k → before ≡ planned_before long k → whole ≡ planned_whole long
       → record { party = at parties k; a = f; b = t; e_wh = e; over = ManyMonths before whole } ≡ record_of long k
   unfolding record_of
-  record_made f-is t-is b-is w_is = rw (from_of f-is refl, to_of t-is refl, b-is, w_is)
+  record_made f-is t-is b-is w_is = rw (from_of f-is, to_of t-is, b-is, w_is)
 
 -- A LOOP that has made the records of the first k months
 pub record Made (r : LongReading) (records : List Reading) (before start k : ℕ) : Type 0 where
@@ -147,21 +146,16 @@ module _ {r : LongReading} {whole : ℕ} (a : MakingAsked r whole) {records : Li
           }
 
 pub made_all : (r : LongReading) {records : List Reading} {before start k : ℕ} → Made r records before start k → month_count r ≤ k → {n : ℕ} → n ≡ month_count r
-    → PlannedUnder accepted r (record { answer = Done; months = n; records = records })
-unfolding afterwards entry_of
-made_all r m b is = record { answer = refl; months = is; records = filled_in_full (upto_end m.upto b) }
+    → RecordsOf r (record { months = n; records = records })
+unfolding entry_of
+made_all r m b is = record { months = is; records = filled_in_full (upto_end m.upto b) }
 
 -- THE ANSWER
-nothing_is : (r : LongReading) {v : Verdict} {x : A.Refusal} {place : ℕ} → v ≡ refused (named x) place → {p : Planned} → Nothing (Refused x place) p → PlannedUnder v r p
-unfolding afterwards
-nothing_is r v-is {p} n =
-    record {
-      answer = ap said n.answer ∙ sym v-is;
-      months = n.no_months ∙ sym (ap (λ (v : Verdict). months_under v r) v-is);
-      records = n.no_records ∙ sym (ap (λ (v : Verdict). afterwards v (figures most_months (entry_of r)) (replicate most_months no_reading)) v-is);
-    }
+-- a refusal gives no records
+no_records : {r : LongReading} {planned : Result Planned Refused} {x : Refused} → planned ≡ Err x → said planned ≡ first (plan_checks r) → Promised r planned
+no_records on says = record { answer = says; records = λ p given. cc }
 
-module _ (e a b : ℕ) (parties hours curves : List ℕ) (fit : Answer) (says : said fit ≡ first (handed_checks (handed e a b parties hours curves))) where
+module _ (e a b : ℕ) (parties hours curves : List ℕ) (fit : Result ⊤ Refused) (says : said fit ≡ first (handed_checks (handed e a b parties hours curves))) where
   abbrev reading : LongReading
   reading = handed e a b parties hours curves
 
@@ -170,11 +164,10 @@ module _ (e a b : ℕ) (parties hours curves : List ℕ) (fit : Answer) (says : 
   unfolding plan_checks
   last = first_append (handed_checks reading) _ ∙ ap (and_then (first (handed_checks reading))) (sym (last_check _))
 
-  pub refused_under : {x : A.Refusal} {place : ℕ} → fit ≡ Refused x place → {p : Planned} → Nothing (Refused x place) p → Promised reading p
-  unfolding and_then
-  refused_under told n = nothing_is reading (last ∙ ap (λ (v : Verdict). and_then v (unless (follows_whole e (planned_whole reading)) nothing_to_follow 0)) (sym says ∙ ap said told)) n
+  pub refused_under : {x : Refused} {planned : Result Planned Refused} → fit ≡ Err x → planned ≡ Err x → Promised reading planned
+  refused_under told on = no_records on (ap said on ∙ sym (ap said told) ∙ refused_stops says told _ ∙ sym last)
 
-  module _ (passed : fit ≡ Done) where
+  module _ {given : ⊤} (passed : fit ≡ Ok given) where
     able : Plannable reading
     able = plannable reading ((accepted_exactly (handed_checks reading)).0 (accepted_by says passed))
 
@@ -197,8 +190,7 @@ module _ (e a b : ℕ) (parties hours curves : List ℕ) (fit : Answer) (says : 
     energy_small = able.energy
 
     left : first (plan_checks reading) ≡ unless (follows_whole e (planned_whole reading)) nothing_to_follow 0
-    unfolding and_then
-    left = last ∙ ap (λ (v : Verdict). and_then v (unless (follows_whole e (planned_whole reading)) nothing_to_follow 0)) (accepted_by says passed)
+    left = last ∙ done_passes says passed _
 
     module _ {whole : ℕ} (whole-there : whole ≡ planned_whole (of_all a b hours curves)) where
       whole_here : whole ≡ planned_whole reading
@@ -212,8 +204,12 @@ module _ (e a b : ℕ) (parties hours curves : List ℕ) (fit : Answer) (says : 
         tested : t ≡ follows_whole e (planned_whole reading)
         tested = t-is ∙ ap (follows_whole e) whole_here
 
-        pub nothing_under : not t ≡ true → {p : Planned} → Nothing (Refused NothingToFollow 0) p → Promised reading p
-        nothing_under off n = nothing_is reading (left ∙ stops nothing_to_follow 0 tested off) n
+        pub nothing_under : not t ≡ true → Promised reading (Err (NothingToFollow, 0))
+        nothing_under off = no_records refl (sym (left ∙ stops nothing_to_follow 0 tested off))
 
-        pub made_under : not t ≡ false → {p : Planned} → PlannedUnder accepted reading p → Promised reading p
-        made_under on {p} m = subst (λ (v : Verdict). PlannedUnder v reading p) (sym (left ∙ passes nothing_to_follow 0 tested on)) m
+        pub made_under : not t ≡ false → {p : Planned} → RecordsOf reading p → Promised reading (Ok p)
+        made_under on {p} m =
+            record {
+              answer = sym (left ∙ passes nothing_to_follow 0 tested on);
+              records = λ q given. let same : p ≡ q = cc in subst (RecordsOf reading) same m;
+            }

@@ -8,12 +8,12 @@ use native.Mathlib.Omega.{arith}
 use borrow.Author.Tests.{eqb-true}
 use lib.Dec.{eqb}
 use lib.ListN.{length, set}
+use Rattle.std.specs.Prelude.{Result, Ok, Err, ⊤}
 use Rattle.answer.specs.Said.{said}
-use Rattle.answer.specs.declared.Answer.{Answer}
-use Rattle.answer.specs.declared.Answer.TheVariants.{Done, Refused}
-use Rattle.answer.specs.declared.Refusal.{Refusal}
+use Rattle.answer.specs.declared.Refused.{Refused}
 use Rattle.answer.specs.declared.Refusal.TheVariants.{WrongLength}
 use Rattle.answer.proofs.Checks.{flag_off, flag_on, test_refuses, test_passes}
+use Rattle.answer.proofs.Checks as C
 use Rattle.plan.specs.Planning.{record_of}
 use Rattle.plan.specs.Promised as P
 use Rattle.plan.specs.declared.Planned.{Planned}
@@ -23,7 +23,7 @@ use Rattle.record.specs.declared.Reading.{Reading}
 use Rattle.rules.specs.Limits.{most_months}
 use Rattle.rules.specs.Month.{weight_before, whole_weight}
 use Rattle.rules.specs.Plan.{LongReading, month_count, part_from, part_to, planned_before, plan_checks, lent_plan_checks}
-use Rattle.rules.specs.Refusals.{wrong_length, Verdict, refused, first, afterwards}
+use Rattle.rules.specs.Refusals.{wrong_length, Verdict, first, afterwards}
 use Rattle.rules.specs.Words.{figures}
 use Rattle.rules.proofs.Loops.{Filling, fill_start, fill_next, fill_end, figures_cong}
 use Rattle.rules.proofs.Whole.{both_pass}
@@ -76,31 +76,30 @@ module _ (r : LongReading) (from to before whole : List ℕ) {t : Bool}
   v = plan_verdict r from to before whole
 
   -- refused: nothing is written
-  unwritten : {x : _} {place : ℕ} {a : Answer} → said a ≡ refused x place → said a ≡ v → Promised r from to before whole a from to before whole
-  unfolding afterwards
-  unwritten is told =
+  unwritten : {x : Refused} {a : Result ⊤ Refused} → a ≡ Err x → said a ≡ v → Promised r from to before whole a from to before whole
+  unwritten told says =
       record {
-        answer = told;
-        holds_from = sym (ap (λ (u : Verdict). afterwards u (figures (month_count r) (part_from r)) from) is);
-        holds_to = sym (ap (λ (u : Verdict). afterwards u (figures (month_count r) (part_to r)) to) is);
-        holds_before = sym (ap (λ (u : Verdict). afterwards u (figures (month_count r) (planned_before r)) before) is);
-        holds_whole = sym (ap (λ (u : Verdict). afterwards u (figures (month_count r) (whole_of_each r)) whole) is);
+        answer = says;
+        holds_from = C.unwritten _ _ told;
+        holds_to = C.unwritten _ _ told;
+        holds_before = C.unwritten _ _ told;
+        holds_whole = C.unwritten _ _ told;
       }
 
   -- 16
-  pub wrong_lent : not t ≡ true → Promised r from to before whole (Refused WrongLength 0) from to before whole
+  pub wrong_lent : not t ≡ true → Promised r from to before whole (Err (WrongLength, 0)) from to before whole
   unfolding lent_plan_checks
   wrong_lent off = unwritten refl (test_refuses _ (sym t-is ∙ flag_off t off))
 
-  module _ (on : not t ≡ false) (p : Planned) (promised : P.Promised r p) where
+  module _ (on : not t ≡ false) {planned : Result Planned Refused} (promised : P.Promised r planned) where
     judged : first (plan_checks r) ≡ v
     unfolding lent_plan_checks
     judged = test_passes wrong_length 0 (plan_checks r) (sym t-is ∙ flag_on t on) refl
 
-    pub plan_refuses : {x : Refusal} {place : ℕ} → p.answer ≡ Refused x place → Promised r from to before whole p.answer from to before whole
-    plan_refuses is = unwritten (ap said is) (promised.answer ∙ judged)
+    pub plan_refuses : {x : Refused} {a : Result ⊤ Refused} → planned ≡ Err x → a ≡ Err x → Promised r from to before whole a from to before whole
+    plan_refuses is on = unwritten on (ap said on ∙ sym (ap said is) ∙ promised.answer ∙ judged)
 
-    module _ (done : p.answer ≡ Done) where
+    module _ {p : Planned} (done : planned ≡ Ok p) where
       lengths : (length from ≡ month_count r) × (length to ≡ month_count r) × (length before ≡ month_count r) × (length whole ≡ month_count r)
       lengths =
           let all =
@@ -112,9 +111,9 @@ module _ (r : LongReading) (from to before whole : List ℕ) {t : Bool}
 
       pub places : PlacesFor p.months from to before whole
       places =
-          let is = sym (as_many r p promised done) in
+          let is = sym (as_many r promised done) in
           record {
-            few = omega (arith, is, few_months r p promised done);
+            few = omega (arith, is, few_months r promised done);
             places_from = lengths.0 ∙ is;
             places_to = lengths.1 ∙ is;
             places_before = lengths.2 ∙ is;
@@ -123,15 +122,15 @@ module _ (r : LongReading) (from to before whole : List ℕ) {t : Bool}
 
       -- a lent list with a number of each record
       numbers : {after : List ℕ} {f g : ℕ → ℕ} → after ≡ figures p.months f → ((k : ℕ) → k < month_count r → f k ≡ g k) → after ≡ figures (month_count r) g
-      numbers {f = f} is same = is ∙ ap (λ (n : ℕ). figures n f) (as_many r p promised done) ∙ figures_cong (month_count r) same
+      numbers {f = f} is same = is ∙ ap (λ (n : ℕ). figures n f) (as_many r promised done) ∙ figures_cong (month_count r) same
 
       pub all_lent : {from' to' before' whole' : List ℕ} → NumbersOf p.records p.months from' to' before' whole'
-          → Promised r from to before whole Done from' to' before' whole'
+          → Promised r from to before whole (Ok tt) from' to' before' whole'
       unfolding from_in to_in before_in whole_in record_of weight_before whole_weight afterwards
       all_lent put =
-          let at = record_at_lem r p promised done in
+          let at = record_at_lem r promised done in
           record {
-            answer = sym (accepts r p promised done) ∙ judged;
+            answer = sym (accepts r promised done) ∙ judged;
             holds_from = numbers put.froms (λ k c. ap (λ (x : Reading). x.a) (at k c));
             holds_to = numbers put.tos (λ k c. ap (λ (x : Reading). x.b) (at k c));
             holds_before = numbers put.befores (λ k c. ap (λ (x : Reading). weight_before (over_of x.over)) (at k c));

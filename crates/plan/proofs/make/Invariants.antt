@@ -1,12 +1,7 @@
 -- `plan::make` meets its contract: after k months the records of the k stand in their places (`Making`). Assumes nothing.
 use Rattle.plan.proofs.Making.{Made}
-use Prim.Native.Nat.{◌-◌}
-use lib.ListN.{length}
 use Rattle.plan_checks.specs.Handed.{handed}
 use Rattle.plan.proofs.make.Given as goal
 
 abbrev pub invariant-loop-k : goal.invariant-loop-k
 invariant-loop-k l = Made (handed l.e_wh l.a l.b l.parties l.hours l.curves) l.records l.before l.start l.k
-
-abbrev pub decreases-loop-k : goal.decreases-loop-k
-decreases-loop-k l = length l.hours - l.k

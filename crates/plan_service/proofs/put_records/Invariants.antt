@@ -1,10 +1,6 @@
 -- `plan_service::put_records` meets its contract: the first k places of each list have the numbers of the first k records (`Lent`). Assumes nothing.
-use Prim.Native.Nat.{◌-◌}
 use Rattle.plan_service.proofs.Lent.{Put}
 use Rattle.plan_service.proofs.put_records.Given as goal
 
 abbrev pub invariant-loop-k : goal.invariant-loop-k
 invariant-loop-k l = Put l.records l.months l.out_a l.out_b l.out_before l.out_whole l.k
-
-abbrev pub decreases-loop-k : goal.decreases-loop-k
-decreases-loop-k l = l.months - l.k
