@@ -4,12 +4,10 @@ use mathlib.Core.Path.{◌≡◌, refl, sym, ◌∙◌, ap}
 use Prim.Native.Nat.{ℕ}
 use lib.IntN.{ℤ}
 use lib.ListN.{length}
-use Rattle.answer.specs.Said.{said}
-use Rattle.answer.specs.declared.Answer.TheVariants as A
-use Rattle.answer.specs.declared.Refusal.{Refusal}
+use Rattle.std.specs.Prelude.{Result, Ok, Err}
+use Rattle.answer.specs.Said.{verdict_of}
+use Rattle.answer.specs.declared.Refused.{Refused}
 use Rattle.reconcile_service.specs.Told.{verdict, told, Promised}
-use Rattle.reconcile_service.specs.declared.Reconciled.{Reconciled}
-use Rattle.reconcile_service.specs.declared.Reconciled.TheVariants.{Loss, Refused}
 use Rattle.rules.specs.Refusals as R
 use Rattle.rules.specs.Refusals.{Verdict, first, afterwards, answer}
 use Rattle.rules.specs.Services.{reconciliation_checks, reconciliation_loss, reconciliation_differences, reconciliation_amounts}
@@ -29,7 +27,7 @@ or_kept old new (R.refused r place) = refl
 
 module _
     {residual : ℕ} {distributed : List ℤ} {periodised : List ℕ} {carrier : ℕ} {price : ℤ} {differences amounts : List ℤ}
-    {r : Reconciled} {d a : List ℤ}
+    {r : Result ℤ Refused} {d a : List ℤ}
     (p : Promised residual distributed periodised carrier price differences amounts r d a) where
   abbrev checked : Verdict
   checked = first (reconciliation_checks residual distributed periodised carrier price (length differences) (length amounts))
@@ -40,17 +38,17 @@ module _
       ∙ or_kept old (reconciliation_loss residual periodised) (verdict r)
       ∙ ap (λ (v : Verdict). kept v (reconciliation_loss residual periodised) old) p.answers
 
-  pub loss_given : {loss : ℤ} (old : ℤ) → r ≡ Loss loss → loss ≡ kept checked (reconciliation_loss residual periodised) old
-  loss_given old is = sym (ap (λ (x : Reconciled). loss_or old (told x)) is) ∙ loss_is old
+  pub loss_given : {loss : ℤ} (old : ℤ) → r ≡ Ok loss → loss ≡ kept checked (reconciliation_loss residual periodised) old
+  loss_given old is = sym (ap (λ (x : Result ℤ Refused). loss_or old (told x)) is) ∙ loss_is old
 
-  pub loss_kept : {x : Refusal} {place : ℕ} (old : ℤ) → r ≡ Refused x place → old ≡ kept checked (reconciliation_loss residual periodised) old
-  loss_kept old is = sym (ap (λ (x : Reconciled). loss_or old (told x)) is) ∙ loss_is old
+  pub loss_kept : {x : Refused} (old : ℤ) → r ≡ Err x → old ≡ kept checked (reconciliation_loss residual periodised) old
+  loss_kept old is = sym (ap (λ (x : Result ℤ Refused). loss_or old (told x)) is) ∙ loss_is old
 
-  pub code_given : {loss : ℤ} → r ≡ Loss loss → 0 ≡ coded checked
+  pub code_given : {loss : ℤ} → r ≡ Ok loss → 0 ≡ coded checked
   unfolding coded
   code_given is = ap coded (sym (ap verdict is) ∙ p.answers)
 
-  pub code_refused : {x : Refusal} {place n : ℕ} → r ≡ Refused x place → n ≡ coded (said (A.Refused x place)) → n ≡ coded checked
+  pub code_refused : {x : Refused} {n : ℕ} → r ≡ Err x → n ≡ coded (verdict_of x) → n ≡ coded checked
   code_refused is by = coded_by by (sym (ap verdict is) ∙ p.answers)
 
   pub lists_left :

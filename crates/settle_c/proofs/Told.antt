@@ -3,7 +3,8 @@ use mathlib.Core.List.{List}
 use mathlib.Core.Path.{◌≡◌, ◌∙◌, ap}
 use Prim.Native.Nat.{ℕ}
 use Rattle.answer.specs.Promised.{Answered}
-use Rattle.answer.specs.declared.Answer.{Answer}
+use Rattle.std.specs.Prelude.{Result, ⊤}
+use Rattle.answer.specs.declared.Refused.{Refused}
 use Rattle.answer_code.specs.Coded as Code
 use Rattle.answer_code.specs.Coded.{coded}
 use Rattle.plan_service.specs.Promised as Plan
@@ -21,13 +22,13 @@ pub left_by : {A : Type 0} {v w : Verdict} {left : List A} (new old : List A) �
 left_by new old by same = by ∙ ap (λ (u : Verdict). afterwards u new old) same
 
 -- an export with one lent list
-pub numbered : {A : Type 0} {v : Verdict} {new old held : List A} {a : Answer} {n : ℕ} → Answered v new old a held → Code.Promised a n → Numbered v new old n held
+pub numbered : {A : Type 0} {v : Verdict} {new old held : List A} {a : Result ⊤ Refused} {n : ℕ} → Answered v new old a held → Code.Promised a n → Numbered v new old n held
 numbered {new = new} {old = old} promised by =
     record { answer = coded_by by promised.answer; contents = left_by new old promised.contents promised.answer }
 
 -- the export with four
 pub plan_numbered :
-    {r : LongReading} {from to before whole from' to' before' whole' : List ℕ} {a : Answer} {n : ℕ} → Plan.Promised r from to before whole a from' to' before' whole'
+    {r : LongReading} {from to before whole from' to' before' whole' : List ℕ} {a : Result ⊤ Refused} {n : ℕ} → Plan.Promised r from to before whole a from' to' before' whole'
     → Code.Promised a n
     → PlanPromised r from to before whole n from' to' before' whole'
 plan_numbered {r} {from} {to} {before} {whole} promised by =
