@@ -3,12 +3,13 @@ use mathlib.Core.List.{List}
 use mathlib.Core.Path.{◌≡◌, refl, sym, ◌∙◌, ap}
 use Prim.Native.Nat.{ℕ}
 use native.Mathlib.Omega.{arith}
+use Rattle.std.specs.Prelude.{Result, ⊤}
 use Rattle.answer.specs.Promised.{Answered}
 use Rattle.answer.specs.Said.{said}
+use Rattle.answer.specs.declared.Refused as A
 use Rattle.answer_code.specs.Coded.{coded}
 use Rattle.every_service.specs.NothingWritten.{Refused, Refuses, wrote_verdict, NotZero, Unwritten, NothingWritten}
 use Rattle.record_write.specs.Writing as Write
-use Rattle.record_write.specs.declared.Written.{Written}
 use Rattle.rules.specs.Record.{Record}
 use Rattle.rules.specs.Refusals.{Verdict, accepted, refused, Answer, verdict_told, afterwards}
 use Rattle.rules.proofs.Refusals.{verdict_back}
@@ -31,7 +32,7 @@ unfolding kept
 number_left v new old refuses holds = holds ∙ ap (λ (u : Verdict). kept u new old) refuses.told
 
 -- one lent list, of an answer by a verdict, and of a number
-answered : {A : Type 0} (verdict : Verdict) (figures lent : List A) → Unwritten (Refuses said) lent (Answered verdict figures lent)
+answered : {A : Type 0} (verdict : Verdict) (figures lent : List A) → Unwritten (Refuses (said {A = ⊤})) lent (Answered verdict figures lent)
 unfolding Unwritten
 answered verdict figures lent r held refuses p = left (said r) figures lent refuses p.contents
 
@@ -40,7 +41,7 @@ unfolding Unwritten
 numbered verdict figures lent n held some p = left verdict figures lent (not_zero verdict p.answer some) p.contents
 
 -- the record writer's answer tells its verdict
-wrote_nothing : (r : Record) (lent : List ℕ) (v : Verdict) → Unwritten (Refuses wrote_verdict) lent (λ (w : Written) (held : List ℕ). Write.WrittenUnder r lent v (Write.wrote w) held)
+wrote_nothing : (r : Record) (lent : List ℕ) (v : Verdict) → Unwritten (Refuses wrote_verdict) lent (λ (w : Result ℕ A.Refused) (held : List ℕ). Write.WrittenUnder r lent v (Write.wrote w) held)
 unfolding Unwritten
 wrote_nothing r lent v w held refuses p =
     left v _ lent (record { why = refuses.why; place = refuses.place; told = sym (verdict_back v _) ∙ ap (λ (a : Answer ℕ). verdict_told a) (sym p.0) ∙ refuses.told }) p.1
