@@ -1,6 +1,7 @@
 -- NO SECOND RESULT FITS, for every public service: by its crate's own law, or because the promise says what the result equals.
 use mathlib.Core.List.{List}
 use mathlib.Core.Path.{◌≡◌, sym, ◌∙◌, ap}
+use Rattle.std.specs.Prelude.{⊤}
 use Rattle.answer.proofs.Said.{said_once}
 use Rattle.answer.specs.Promised.{Answered}
 use Rattle.every_service.specs.NoSecond.{OneFits, OneFitsWith, Services, ServicesForC, Records, WholeFiles, Answers, NoSecondResult}
@@ -30,7 +31,7 @@ one_left :
 one_left figures lent same p q = p ∙ ap (λ (v : Verdict). afterwards v figures lent) same ∙ sym q
 
 -- an answer by a verdict, and a lent list
-one_answered : {A : Type 0} (verdict : Verdict) (figures lent : List A) → OneFitsWith (Answered verdict figures lent)
+one_answered : {A : Type 0} (verdict : Verdict) (figures lent : List A) → OneFitsWith (Answered {B = ⊤} verdict figures lent)
 unfolding OneFitsWith
 one_answered verdict figures lent r s held held' p q =
     let same = p.answer ∙ sym q.answer in
