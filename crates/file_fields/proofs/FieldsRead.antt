@@ -6,9 +6,9 @@ use Prim.Native.Nat.{ℕ, ◌<◌}
 use native.Mathlib.Omega.{arith}
 use lib.IntN.{ℤ}
 use lib.ListN.{length}
+use Rattle.std.specs.Option.{unwrap_or}
+use Rattle.std.specs.Prelude.{Option, Some}
 use Rattle.gln.specs.Gln.{gln_answer}
-use Rattle.gln.specs.declared.Gln.{Gln}
-use Rattle.gln.specs.declared.Gln.TheVariants.{Valid, Invalid}
 use Rattle.record.specs.Record.{flows_of}
 use Rattle.record.specs.declared.Flows as CFlows
 use Rattle.file_sections.specs.declared.Sections.{Sections}
@@ -59,19 +59,16 @@ module _ (file : List ℕ) (s : Sections) (ok : Accepted file s) where
   gln_length b {gln} is = ap length (gln_read is) ∙ valid_length _ (party_right b).1
 
 -- THE NUMBER OF A BRP'S GLN: an accepted file's GLNs are valid, so the check gives it
-module _ (file : List ℕ) (s : Sections) (i : ℕ) (a : PartyAsked file s i) {gln : List ℕ} (is : BrpGlnIs file i gln) {g : Gln} (tested : g ≡ gln_answer gln) where
-  answered : g ≡ Valid (digits_onto 0 gln)
+module _ (file : List ℕ) (s : Sections) (i : ℕ) (a : PartyAsked file s i) {gln : List ℕ} (is : BrpGlnIs file i gln) where
+  answered : gln_answer gln ≡ Some (digits_onto 0 gln)
   unfolding gln_answer
   answered =
       let right = party_right file s a.accepted {i = i} (omega (arith, a.party, parties_are file s a.accepted)) in
       let valid : valid_gln gln ≡ true = ap valid_gln (brp_gln_read file s a.accepted is) ∙ right.2 in
-      tested ∙ rw valid
+      rw valid
 
-  pub number_is : {n : ℕ} → g ≡ Valid n → BrpNumberIs file i n
+  pub number_is : {tested : Option ℕ} {n : ℕ} → tested ≡ gln_answer gln → n ≡ unwrap_or tested 0 → BrpNumberIs file i n
   unfolding brp_of
-  number_is {n} e =
-      let same : n ≡ digits_onto 0 gln = let both : Valid n ≡ Valid (digits_onto 0 gln) = sym e ∙ answered in cc in
+  number_is {tested} e given =
+      let same = given ∙ ap (λ (g : Option ℕ). unwrap_or g 0) (e ∙ answered) in
       record { is = λ prices m read. same ∙ ap (digits_onto 0) (is.is prices m read) }
-
-  pub never_invalid : g ≡ Invalid → ⊥
-  never_invalid e = let both : Invalid ≡ Valid (digits_onto 0 gln) = sym e ∙ answered in let z : ◌≡◌ {A = ℕ} 0 1 = cc in omega arith

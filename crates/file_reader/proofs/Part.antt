@@ -5,6 +5,8 @@ use Prim.Native.Nat.{ℕ, ◌-◌, ◌<◌}
 use native.Mathlib.Omega.{arith}
 use lib.ListN.{length, take, drop, length-drop}
 use lib.Seq.{take_all}
+use Rattle.std.specs.Prelude.{Result}
+use Rattle.answer.specs.declared.Refused.{Refused}
 use Rattle.file_step.specs.Walk.{Steppable, Stepped}
 use Rattle.file_step.specs.declared.Step.{Step}
 use Rattle.file_step.specs.declared.Walk.{Walk}
@@ -22,5 +24,5 @@ module _ (file : List ℕ) (place : ℕ) (w : Walk) where
   pub asked : Steppable w (drop place file) → Steppable w part
   asked = subst (Steppable w) (sym part_is)
 
-  pub judged : {s : Step} → Stepped w part s → Stepped w (drop place file) s
+  pub judged : {s : Result Step Refused} → Stepped w part s → Stepped w (drop place file) s
   judged {s} = subst (λ (bytes : List ℕ). Stepped w bytes s) part_is

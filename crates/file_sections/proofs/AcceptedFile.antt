@@ -4,10 +4,10 @@ use mathlib.Core.Path.{◌≡◌, refl, sym, ◌∙◌, ap, ap₂}
 use Prim.Native.Nat.{ℕ}
 use native.Mathlib.Omega.{arith}
 use lib.ListN.{length}
+use Rattle.std.specs.Prelude.{Ok}
 use Rattle.file_sections.specs.declared.Sections.{Sections}
 use Rattle.setting.specs.Asked.{prices_asked}
 use Rattle.setting.specs.declared.Prices as Called
-use Rattle.file_sections.specs.declared.MonthRead.TheVariants as M
 use Rattle.file_sections.specs.Walk.{read_answer, sections_of, Promised, Read, Accepted, AcceptedPriced}
 use Rattle.rules.specs.Month.{month_read, month_of, estimated_hours}
 use Rattle.rules.specs.MonthFile.{MonthFile, H, P, read_month}
@@ -26,7 +26,7 @@ month_in (given m) e = (m, refl)
 month_in (refusal r place) e = absurd (let z : ◌≡◌ {A = ℕ} 0 1 = cc in omega arith)
 
 -- what the reading accepted
-pub accepted_so : (prices : Called.Prices) (file : List ℕ) (s : Sections) → Promised prices file (M.Accepted s) → Read (prices_asked prices) file s
+pub accepted_so : (prices : Called.Prices) (file : List ℕ) (s : Sections) → Promised prices file (Ok s) → Read (prices_asked prices) file s
 accepted_so prices file s e = record { is = sym e }
 
 -- the file is read as its month

@@ -9,8 +9,9 @@ use native.Mathlib.Omega.{arith}
 use borrow.Author.Tests.{le-leb, lt-leb}
 use lib.ListN.{length, drop, length-drop, drop_of_length-le}
 use lib.Seq.{drop-drop}
+use Rattle.std.specs.Prelude.{Result, Ok, Err}
 use Rattle.answer.specs.Said.{named}
-use Rattle.answer.specs.declared.Refusal.{Refusal}
+use Rattle.answer.specs.declared.Refused.{Refused}
 use Rattle.setting.specs.Asked.{prices_asked}
 use Rattle.setting.specs.declared.Prices as Called
 use Rattle.file_step.specs.declared.Walk.{Walk}
@@ -139,7 +140,7 @@ module _ (prices : Prices) (file : List ℕ) (w : Walk) (place : ℕ) (turn_is :
       ∙ turn (prices_asked w.prices_asked) (length file - suc w.records) rest w.records k.month some_left
 
   -- the reading goes on
-  module _ {v : Walk} {size : ℕ} (s : Stepped w rest (S.Next v size)) where
+  module _ {v : Walk} {size : ℕ} (s : Stepped w rest (Ok (S.Next v size))) where
     abbrev grown : MonthFile
     grown = F.with k.month (R.record_at rest)
 
@@ -159,12 +160,12 @@ module _ (prices : Prices) (file : List ℕ) (w : Walk) (place : ℕ) (turn_is :
         record { bound = omega (arith, left, s.moves.3); counted = s.moves.2; fuel = omega (arith, k.fuel, s.moves.0, s.moves.1); month = grown; stands = (s.means k.month k.stands).2; same = same_later }
 
   -- a record is refused
-  refused_here : {r : Refusal} {q : ℕ} → Stepped w rest (S.Refused r q) → refusal (named r) q ≡ read_month prices file
+  refused_here : {r : Refused} → Stepped w rest (Err r) → refusal (named r.0) r.1 ≡ read_month prices file
   unfolding onward
   refused_here s = sym (this_turn ∙ rw (s.means k.month k.stands))
 
   -- the end record, and what stands after it
-  module _ (s : Stepped w rest S.End) where
+  module _ (s : Stepped w rest (Ok S.End)) where
     ended : read_month prices file ≡ closed k.month (suc w.records) later
     unfolding onward
     ended = let means = s.means k.month k.stands in this_turn ∙ rw (means.0, means.1)
@@ -185,24 +186,25 @@ module _ (prices : Prices) (file : List ℕ) (w : Walk) (place : ℕ) (turn_is :
         ∙ ap (refusal file_fault) (sym (add-one w.records)))
 
   -- The same of what the step answered.
-  module _ (s : Step) (stepped : Stepped w rest s) where
-    stepped_as : {t : Step} → s ≡ t → Stepped w rest t
+  module _ {s : Result Step Refused} (stepped : Stepped w rest s) where
+    stepped_as : {t : Result Step Refused} → s ≡ t → Stepped w rest t
     stepped_as e = subst (Stepped w rest) e stepped
 
-    pub goes_on : {v : Walk} {size : ℕ} → s ≡ S.Next v size → Walking prices file v (place + size)
-    goes_on e = next_walking (stepped_as e)
-
-    pub moves : {v : Walk} {size : ℕ} → s ≡ S.Next v size → (1 ≤ size) × (place + size ≤ length file)
-    moves e = (omega (arith, (stepped_as e).moves.0), (goes_on e).bound)
-
-    pub refuses : {r : Refusal} {q : ℕ} → s ≡ S.Refused r q → refusal (named r) q ≡ read_answer (read_month prices file)
+    pub refuses : {r : Refused} → s ≡ Err r → refusal (named r.0) r.1 ≡ read_answer (read_month prices file)
     refuses e = ap read_answer (refused_here (stepped_as e))
 
-    pub accepts : {x : Sections} → s ≡ S.End → length file - place ≡ 5 → x ≡ sections_in w → given x ≡ read_answer (read_month prices file)
-    accepts e five is = ap given is ∙ at_the_end (stepped_as e) five
+    module _ {step : Step} (told : s ≡ Ok step) where
+      pub goes_on : {v : Walk} {size : ℕ} → step ≡ S.Next v size → Walking prices file v (place + size)
+      goes_on e = next_walking (stepped_as (told ∙ ap Ok e))
 
-    pub goes_past : s ≡ S.End → (length file - place ≡ 5 → ⊥) → refusal file_fault (w.records + 1) ≡ read_answer (read_month prices file)
-    goes_past e longer = ap read_answer (past_the_end (stepped_as e) longer)
+      pub moves : {v : Walk} {size : ℕ} → step ≡ S.Next v size → (1 ≤ size) × (place + size ≤ length file)
+      moves e = (omega (arith, (stepped_as (told ∙ ap Ok e)).moves.0), (goes_on e).bound)
+
+      pub accepts : {x : Sections} → step ≡ S.End → length file - place ≡ 5 → x ≡ sections_in w → given x ≡ read_answer (read_month prices file)
+      accepts e five is = ap given is ∙ at_the_end (stepped_as (told ∙ ap Ok e)) five
+
+      pub goes_past : step ≡ S.End → (length file - place ≡ 5 → ⊥) → refusal file_fault (w.records + 1) ≡ read_answer (read_month prices file)
+      goes_past e longer = ap read_answer (past_the_end (stepped_as (told ∙ ap Ok e)) longer)
 
 -- no end record
 pub never_ends :

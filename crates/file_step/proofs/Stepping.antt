@@ -8,10 +8,9 @@ use native.Mathlib.Omega.{arith}
 use borrow.Author.Tests.{le-leb, lt-leb, ne_eqb}
 use lib.Dec.{eqb, leb, ltb, eqb-suc-zero}
 use lib.ListN.{length, length-append}
-use Rattle.answer.specs.Said.{named, said}
-use Rattle.answer.specs.declared.Answer.{Answer}
-use Rattle.answer.specs.declared.Answer.TheVariants as AV
-use Rattle.answer.specs.declared.Refusal.{Refusal}
+use Rattle.std.specs.Prelude.{Result, Ok, Err, ⊤}
+use Rattle.answer.specs.Said.{said, verdict_of}
+use Rattle.answer.specs.declared.Refused.{Refused}
 use Rattle.answer.specs.declared.Refusal.TheVariants.{GlnFault, WrongCount}
 use Rattle.gln.specs.Gln.{gln_answer}
 use Rattle.record.specs.Record.{Glns, glns_in, brp_of, kind_of_brp, record_of}
@@ -32,8 +31,7 @@ use Rattle.rules.specs.Limits.{greatest_share}
 use Rattle.rules.specs.MonthFile.{MonthFile, H, P, hours_there, prices_there, due, all_priced, priced_for, after_the_last, alike_after, rises_after, record_checks, is_end}
 use Rattle.rules.specs.MonthFile as F
 use Rattle.rules.specs.Record as R
-use Rattle.rules.specs.Refusals as Refused
-use Rattle.rules.specs.Refusals.{file_fault, unknown_kind, out_of_order, out_of_range, gln_fault, wrong_count, Verdict, accepted, refused, unless, and_then, first}
+use Rattle.rules.specs.Refusals.{Refusal, file_fault, unknown_kind, out_of_order, out_of_range, gln_fault, wrong_count, Verdict, accepted, refused, unless, and_then, first}
 use Rattle.rules.proofs.Refusals.{accepted_exactly, unless_exactly, refused_not_accepted, then_accepted}
 
 -- a test against the last party, with one party more
@@ -235,14 +233,14 @@ module _ (m : MonthFile) (n : ℕ) where
   brp_right : R.Party → Verdict
   brp_right p = unless (valid_gln (R.brp_gln p)) gln_fault n
 
-  before_rising : (a b c d : Verdict) {x : Refused.Refusal} {place : ℕ} → first (a ∷ b ∷ c ∷ accepted ∷ []) ≡ refused x place → first (a ∷ b ∷ c ∷ d ∷ []) ≡ refused x place
+  before_rising : (a b c d : Verdict) {x : Refusal} {place : ℕ} → first (a ∷ b ∷ c ∷ accepted ∷ []) ≡ refused x place → first (a ∷ b ∷ c ∷ d ∷ []) ≡ refused x place
   unfolding first and_then
   before_rising accepted accepted accepted d e = absurd (refused_not_accepted (sym e))
   before_rising accepted accepted (refused r q) d e = e
   before_rising accepted (refused r q) c d e = e
   before_rising (refused r q) b c d e = e
 
-  pub still_faulty : (r : R.Record) {x : Refused.Refusal} {place : ℕ} → by_itself r ≡ refused x place → in_file r ≡ refused x place
+  pub still_faulty : (r : R.Record) {x : Refusal} {place : ℕ} → by_itself r ≡ refused x place → in_file r ≡ refused x place
   unfolding R.checks first and_then unless share_right gln_right brp_right
   still_faulty (R.heading h) e = e
   still_faulty (R.party p) e = before_rising (share_right p) (gln_right p) (brp_right p) (unless (rises_after m.parties p) gln_fault n) e
@@ -282,13 +280,13 @@ module _ (m : MonthFile) (w : Walk) (st : Stands m w) (bytes : List ℕ) (size :
   goes_on :
       (number : ℕ) (x : Record) → record_of beside x ≡ R.record_at bytes → is_end (record_of beside x) ≡ false → Kept m w st beside number x
       → verdict_here ≡ accepted
-      → StepMeans w bytes m (moved_in w x number size)
+      → StepMeans w bytes m (Ok (moved_in w x number size))
   goes_on number x is not_end kept v =
       (v, ap is_end (sym is) ∙ not_end, subst (λ (r : R.Record). Stands (F.with m r) (with_in w x number)) is (stands_with m w st beside number x kept))
 
   at_the_end :
       (count : ℕ) → R.end count ≡ R.record_at bytes → verdict_here ≡ unless (eqb count here) wrong_count here → (t : Bool) → eqb count here ≡ t
-      → StepMeans w bytes m (cond t S.End (S.Refused WrongCount here))
+      → StepMeans w bytes m (cond t (Ok S.End) (Err (WrongCount, here)))
   unfolding unless is_end
   at_the_end count is v true e = (v ∙ rw e, ap is_end (sym is))
   at_the_end count is v false e = v ∙ rw e
@@ -299,7 +297,7 @@ module _ (m : MonthFile) (w : Walk) (st : Stands m w) (bytes : List ℕ) (size :
 
     by_rising :
         (t : Bool) → W.rises w (digits_onto 0 beside.gln) ≡ t → verdict_here ≡ unless t gln_fault here
-        → StepMeans w bytes m (cond t (moved_in w (Party brp share) (digits_onto 0 beside.gln) size) (S.Refused GlnFault here))
+        → StepMeans w bytes m (cond t (Ok (moved_in w (Party brp share) (digits_onto 0 beside.gln) size)) (Err (GlnFault, here)))
     unfolding unless is_end
     by_rising true e v = goes_on (digits_onto 0 beside.gln) (Party brp share) is refl (λ _ _ _. refl) v
     by_rising false e v = v
@@ -394,9 +392,9 @@ module _ (m : MonthFile) (w : Walk) (st : Stands m w) (bytes : List ℕ) where
 
         -- 4, 5, 11, 12
         pub faulty :
-            (a : Answer) {x : Refusal} {place : ℕ} → said a ≡ fault_of w.heading.hours w.heading.parties beside r n
-            → a ≡ AV.Refused x place → verdict ≡ refused (named x) place
-        faulty a s e = from_fields ∙ still_faulty m n (record_of beside r) (sym fault_is ∙ sym s ∙ ap said e)
+            {a : Result ⊤ Refused} {x : Refused} → said a ≡ fault_of w.heading.hours w.heading.parties beside r n
+            → a ≡ Err x → verdict ≡ verdict_of x
+        faulty s e = from_fields ∙ still_faulty m n (record_of beside r) (sym fault_is ∙ sym s ∙ ap said e)
 
         -- 5, "not rising"; 15; or the record is accepted
         pub judged_means : fault_of w.heading.hours w.heading.parties beside r n ≡ accepted → (size : ℕ) → StepMeans w bytes m (judged_in w r beside.gln size)

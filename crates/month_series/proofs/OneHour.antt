@@ -6,8 +6,9 @@ use native.Mathlib.Omega.{arith}
 use borrow.Author.Tests.{leb-true}
 use lib.Dec.{leb}
 use lib.IntN.{ℤ, pos, negsuc, nat_abs}
+use Rattle.std.specs.Prelude.{Result}
 use Rattle.residual.specs.Hour.{judgement, flows_here, WithinLimits}
-use Rattle.residual.specs.declared.Hour.{Hour}
+use Rattle.residual.specs.declared.NoResidual.{NoResidual}
 use Rattle.rules.specs.Flows.{Flows, figure, no_figure, residual, flows_in_range, judged, judged_by, residual_wh}
 use Rattle.rules.specs.Limits.{estimated, greatest_flow, greatest_residual}
 use Rattle.rules.specs.Refusals.{Refusal, residual_too_large}
@@ -40,7 +41,7 @@ module _ (f : Flows) where
       }
 
 -- the machine's numbers are the net supply and the residual, which the status has no part in
-module _ (f : Flows) (hour : Hour) {net wh z : ℤ} (n : net ≡ f.net) (r : wh ≡ residual (flows_here 0 net f.production f.hourly f.flex)) where
+module _ (f : Flows) (hour : Result ℕ NoResidual) {net wh z : ℤ} (n : net ≡ f.net) (r : wh ≡ residual (flows_here 0 net f.production f.hourly f.flex)) where
   pub judged_is : z ≡ wh → judgement hour ≡ judged_by f.status z → judgement hour ≡ judged f
   unfolding judged residual
   judged_is e j = j ∙ rw (e, r, n)

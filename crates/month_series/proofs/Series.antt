@@ -8,6 +8,7 @@ use native.Mathlib.Numerals.{add-one}
 use native.Mathlib.Omega.{arith}
 use lib.Dec.{eqb}
 use lib.ListN.{length, set}
+use Rattle.std.specs.Prelude.{Result, Ok, Err}
 use Rattle.answer.specs.Said.{named}
 use Rattle.answer.specs.declared.Refusal.{Refusal}
 use Rattle.file_sections.specs.Walk.{Accepted}
@@ -16,12 +17,11 @@ use Rattle.file_sections.specs.declared.Sections.{Sections}
 use Rattle.file_sections.proofs.AcceptedFile.{month_whole, hours_are, refixed_are}
 use Rattle.file_fields.proofs.FieldsRead.{fixed_read, refixed_read}
 use Rattle.month_series.specs.Series.{series_of, residual_at, hours_in, HourAsked, estimated_one, SeriesIs}
-use Rattle.month_series.specs.declared.Judged.TheVariants.{Figures, Refused}
 use Rattle.month_series.proofs.OneHour.{figure_is}
 use Rattle.record.specs.Record.{flows_of}
 use Rattle.record.specs.declared.Flows as CFlows
-use Rattle.residual.specs.Hour.{judgement}
-use Rattle.residual.specs.declared.Hour.{Hour}
+use Rattle.residual.specs.Hour.{judgement, refusal_of}
+use Rattle.residual.specs.declared.NoResidual.{NoResidual}
 use Rattle.rules.specs.Flows.{Flows, Judgement, figure, no_figure, flows_in_range, judged, verdict_of}
 use Rattle.rules.specs.Limits as Limits
 use Rattle.rules.specs.Month.{month_of, flows_at, hour_verdict, is_estimated}
@@ -78,11 +78,11 @@ one_at_most status = one_or_none (eqb status Limits.estimated)
 
 module _ {series : List Flows} {out : List ℕ} {n t : ℕ} (l : Judging series out n t) (b : t < length series) where
   -- the hour at t, as it was read and judged
-  module _ {f : Flows} (here : f ≡ flows_at series t) (hour : Hour) (is : judgement hour ≡ judged f) where
-    pub judge_next : {wh k : ℕ} → judgement hour ≡ figure wh → k ≡ estimated_one f.status → Judging series (set out t wh) (n + k) (t + 1)
+  module _ {f : Flows} (here : f ≡ flows_at series t) {hour : Result ℕ NoResidual} (is : judgement hour ≡ judged f) where
+    pub judge_next : {wh k : ℕ} → hour ≡ Ok wh → k ≡ estimated_one f.status → Judging series (set out t wh) (n + k) (t + 1)
     unfolding hour_verdict residual_at verdict_of is_estimated count sum
     judge_next {wh} {k} h e =
-        let known : judged (flows_at series t) ≡ figure wh = ap judged (sym here) ∙ sym is ∙ h in
+        let known : judged (flows_at series t) ≡ figure wh = ap judged (sym here) ∙ sym is ∙ ap judgement h in
         record {
           looking = look_pass l.looking b (ap (λ (j : Judgement). verdict_of j t) known);
           filling = fill_next l.filling b (figure_is (flows_at series t) (sym known));
@@ -90,17 +90,17 @@ module _ {series : List Flows} {out : List ℕ} {n t : ℕ} (l : Judging series 
           few = omega (arith, l.few, e, one_at_most f.status);
         }
 
-    pub judge_stop : (r : Refusal) → judgement hour ≡ no_figure (named r) → SeriesIs series (Refused r t) out
+    pub judge_stop : {why : NoResidual} {r : Refusal} → hour ≡ Err why → named r ≡ refusal_of why → SeriesIs series (Err (r, t)) out
     unfolding hour_verdict verdict_of
-    judge_stop r h =
-        let known : judged (flows_at series t) ≡ no_figure (named r) = ap judged (sym here) ∙ sym is ∙ h in
+    judge_stop {why} {r} h e =
+        let known : judged (flows_at series t) ≡ no_figure (named r) = ap judged (sym here) ∙ sym is ∙ ap judgement h ∙ ap no_figure (sym e) in
         record {
           verdict = sym (look_stop l.looking b (ap (λ (j : Judgement). verdict_of j t) known));
-          figures = λ e. absurd (refused_not_accepted e);
+          figures = λ no. absurd (refused_not_accepted no);
           estimated = λ k e. cc;
         }
 
-pub judge_end : {series : List Flows} {out : List ℕ} {n t : ℕ} → Judging series out n t → length series ≤ t → SeriesIs series (Figures n) out
+pub judge_end : {series : List Flows} {out : List ℕ} {n t : ℕ} → Judging series out n t → length series ≤ t → SeriesIs series (Ok n) out
 judge_end {series} {out} {n} {t} l b =
     let all : t ≡ length series = omega (arith, l.looking.bound) in
     record {

@@ -15,12 +15,6 @@ load_share-requires c = record { accepted = c.requires.accepted; party = omega (
 pub offset_bounds-out-i : goal.offset_bounds-out-i
 offset_bounds-out-i c = omega (arith, (c.loop-i.invariant.size ∙ sym (c.requires.out_len ∙ parties_are _ _ c.requires.accepted)))
 
-pub overflow_add-i : goal.overflow_add-i
-overflow_add-i c = omega (arith, (c.loop-i.invariant.size ∙ sym (c.requires.out_len ∙ parties_are _ _ c.requires.accepted)))
-
-pub loop-i-smaller : goal.loop-i-smaller
-loop-i-smaller c = omega (arith, c.loop-i.invariant.size)
-
 pub loop-i-preserved : goal.loop-i-preserved
 loop-i-preserved c = fill_next c.loop-i.invariant (omega arith) (share_read _ _ c.requires.accepted c.load_share.ensures)
 

@@ -1,5 +1,4 @@
 -- `month_series::shares` meets its contract: the beginning of the lent list is the load shares so far. Assumes nothing.
-use Prim.Native.Nat.{◌-◌}
 use Rattle.rules.specs.Month.{month_of, share_of}
 use Rattle.rules.specs.MonthFile.{P}
 use Rattle.rules.proofs.Loops.{Filling}
@@ -7,6 +6,3 @@ use Rattle.month_series.proofs.shares.Given as goal
 
 abbrev pub invariant-loop-i : goal.invariant-loop-i
 invariant-loop-i l = Filling (share_of (month_of l.file)) (P (month_of l.file)) l.out l.i
-
-abbrev pub decreases-loop-i : goal.decreases-loop-i
-decreases-loop-i l = P (month_of l.file) - l.i
