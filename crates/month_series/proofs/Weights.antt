@@ -51,5 +51,7 @@ module _ {curve out : List ℕ} {so_far t : ℕ} (l : Adding curve out so_far t)
         small = omega (arith, l.small);
       }
 
-  pub add_end : length curve ≤ t → set out t so_far ≡ figures (suc (length curve)) (beginning (at curve))
-  add_end b = fill_end (fill_next l.filling (omega (arith, l.within)) l.is) (omega arith)
+  pub add_end : length curve ≤ t → set out (length curve) so_far ≡ figures (suc (length curve)) (beginning (at curve))
+  add_end b =
+      let all : length curve ≡ t = omega (arith, l.within) in
+      ap (λ (k : ℕ). set out k so_far) all ∙ fill_end (fill_next l.filling (omega (arith, all)) l.is) (omega arith)
