@@ -12,8 +12,3 @@ at_most a b = mul-le-mul a b
 pub overflow_mul-result : goal.overflow_mul-result
 overflow_mul-result c = record { fits = omega (arith, at_most {parties = c.args.parties} c.requires (search rules)) }
 
-pub overflow_add-result : goal.overflow_add-result
-overflow_add-result c = record { fits = omega (arith, at_most {parties = c.args.parties} c.requires (search rules)) }
-
-pub returns : goal.returns
-returns c = record { value = omega arith; bound = omega (arith, at_most {parties = c.args.parties} c.requires (search rules)) }

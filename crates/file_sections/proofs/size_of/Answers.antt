@@ -6,5 +6,5 @@ use Rattle.file_sections.proofs.size_of.Goals as goal
 pub overflow_add-result : goal.overflow_add-result
 overflow_add-result c = omega (arith, c.body_length.ensures, body_short c.args.kind)
 
-pub returns : goal.returns
-returns c = record { value = omega (arith, c.body_length.ensures); bound = omega (arith, c.body_length.ensures, body_short c.args.kind) }
+pub returns-clause-bound : goal.returns-clause-bound
+returns-clause-bound c = omega (arith, c.body_length.ensures, body_short c.args.kind)

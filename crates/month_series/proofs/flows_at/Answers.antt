@@ -1,12 +1,6 @@
 -- `month_series::flows_at` meets its contract: the reader of the series that is asked. Assumes nothing.
-use Rattle.month_series.proofs.Series.{refixed_asked, fixed_asked, refixed_is, fixed_is}
+use Rattle.month_series.proofs.Series.{refixed_is, fixed_is}
 use Rattle.month_series.proofs.flows_at.Goals as goal
-
-pub refixed_flows-requires : goal.refixed_flows-requires
-refixed_flows-requires c = refixed_asked c.requires c.if-refixed.true
-
-pub fixed_flows-requires : goal.fixed_flows-requires
-fixed_flows-requires c = fixed_asked c.requires c.if-refixed.false
 
 pub returns-then-refixed : goal.returns-then-refixed
 returns-then-refixed c = refixed_is c.requires c.if-refixed.true c.refixed_flows.ensures
