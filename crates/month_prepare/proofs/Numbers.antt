@@ -6,23 +6,24 @@ use native.Mathlib.Omega.{arith}
 use borrow.Author.Tests.{eq-eqb, le-leb}
 use lib.Dec.{eqb, leb}
 use lib.ListN.{length}
-use Rattle.answer.specs.Said.{said, named}
-use Rattle.answer.specs.declared.Answer.{Answer}
-use Rattle.answer.specs.declared.Answer.TheVariants.{Done, Refused}
-use Rattle.answer.specs.declared.Refusal.{Refusal}
+use Rattle.std.specs.Prelude.{Result, Ok, Err, ⊤}
+use Rattle.answer.specs.Said.{said}
+use Rattle.answer.specs.declared.Refused.{Refused}
+use Rattle.answer.proofs.Checks.{refused_stops, done_passes}
 use Rattle.file_sections.specs.declared.Sections.{Sections}
 use Rattle.month_series.specs.Series.{beginning, beginnings_of}
+use Rattle.month_prepare.proofs.Hours.{not_accepted}
 use Rattle.month_prepare.specs.Checks.{curve_readings_verdict, CurveAsked, CurveKnown}
 use Rattle.rules.specs.Flows.{curve_number}
 use Rattle.rules.specs.Limits.{most_hours, greatest_w, greatest_residual, greatest_curve_number}
 use Rattle.rules.specs.Month.{month_of, fixed_wh, month_w, curve, curve_verdict, reading_verdict}
 use Rattle.rules.specs.MonthFile.{MonthFile, H}
-use Rattle.rules.specs.Refusals.{wrong_length, out_of_range, w_out_of_range, residual_too_large, curve_too_large, Verdict, accepted, refused, unless, and_then, first, in_turn, afterwards}
+use Rattle.rules.specs.Refusals.{wrong_length, out_of_range, w_out_of_range, residual_too_large, curve_too_large, Verdict, accepted, unless, and_then, first, in_turn, afterwards}
 use Rattle.rules.specs.Services.{each_at, check_at, curve_fits, curve_checks, curve_at, curve_figures}
 use Rattle.rules.specs.Words.{at, at_most, within, figures}
 use Rattle.rules.proofs.Loops.{figures_length, figures_at, figures_cong, in_turn_cong}
 use Rattle.rules.proofs.Month.{W_in_range, heading_right, fixed_hours_have}
-use Rattle.rules.proofs.Refusals.{refused_not_accepted, in_turn_exactly, then_accepted}
+use Rattle.rules.proofs.Refusals.{in_turn_exactly, then_accepted}
 use Rattle.rules.proofs.Sums.{sum_cong}
 
 module _ {file : List ℕ} {s : Sections} {fixed : List ℕ} {w lent beginnings : ℕ} (asked : CurveAsked file s fixed w lent beginnings) where
@@ -85,18 +86,17 @@ module _ {file : List ℕ} {s : Sections} {fixed : List ℕ} {w lent beginnings 
       ∙ ap (λ (n : ℕ). in_turn n (check_at fixed (curve_fits w) curve_too_large)) fixed_many
       ∙ in_turn_cong (H m) same_check)
 
-  module _ {fit : Answer} (is : said fit ≡ first (curve_checks fixed w lent)) (old : List ℕ) {numbers : List ℕ} (holds : numbers ≡ afterwards (said fit) (curve_figures fixed w) old) where
-    pub curve_refused : {x : Refusal} {place : ℕ} → fit ≡ Refused x place → (begun : List ℕ) → CurveKnown m (said fit) numbers begun
-    unfolding curve_readings_verdict and_then
-    curve_refused {x} {place} e begun =
-        let v : in_turn (H m) (curve_verdict m) ≡ refused (named x) place = sym curve_judged ∙ sym is ∙ ap said e in
+  module _ {fit : Result ⊤ Refused} (is : said fit ≡ first (curve_checks fixed w lent)) (old : List ℕ) {numbers : List ℕ} (holds : numbers ≡ afterwards (said fit) (curve_figures fixed w) old) where
+    pub curve_refused : {x : Refused} → fit ≡ Err x → {r : Result ⊤ Refused} → r ≡ Err x → (begun : List ℕ) → CurveKnown m (said r) numbers begun
+    unfolding curve_readings_verdict
+    curve_refused e on begun =
         record {
-          verdict = ap said e ∙ ap (λ (u : Verdict). and_then u (in_turn (length m.readings) (reading_verdict m))) (sym v);
-          curve_is = λ a. absurd (refused_not_accepted (sym (ap said e) ∙ a));
-          beginnings_are = λ a. absurd (refused_not_accepted (sym (ap said e) ∙ a));
+          verdict = ap said on ∙ sym (ap said e) ∙ refused_stops (is ∙ curve_judged) e (in_turn (length m.readings) (reading_verdict m));
+          curve_is = λ a. absurd (not_accepted on a);
+          beginnings_are = λ a. absurd (not_accepted on a);
         }
 
-    module _ (e : fit ≡ Done) where
+    module _ (e : fit ≡ Ok tt) where
       pub numbers_are : numbers ≡ figures (H m) (curve m)
       unfolding afterwards curve_figures
       numbers_are =
@@ -118,12 +118,11 @@ module _ {file : List ℕ} {s : Sections} {fixed : List ℕ} {w lent beginnings 
             begins ∙ ap (λ (n : ℕ). figures (suc n) (beginning (at numbers))) numbers_many
             ∙ figures_cong (suc (H m)) (λ t b. sum_cong t (λ u c. number_at u (omega arith)))
 
-        pub curve_known : (r : Answer) → said r ≡ in_turn (length m.readings) (reading_verdict m) → CurveKnown m (said r) numbers begun
-        unfolding curve_readings_verdict and_then
-        curve_known r told =
-            let v : in_turn (H m) (curve_verdict m) ≡ accepted = sym curve_judged ∙ sym is ∙ ap said e in
+        pub curve_known : {v : Verdict} → v ≡ in_turn (length m.readings) (reading_verdict m) → CurveKnown m v numbers begun
+        unfolding curve_readings_verdict
+        curve_known told =
             record {
-              verdict = told ∙ ap (λ (u : Verdict). and_then u (in_turn (length m.readings) (reading_verdict m))) (sym v);
+              verdict = told ∙ sym (done_passes (is ∙ curve_judged) e (in_turn (length m.readings) (reading_verdict m)));
               curve_is = λ a. numbers_are;
               beginnings_are = λ a. begun_are;
             }

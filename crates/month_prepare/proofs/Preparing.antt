@@ -1,7 +1,7 @@
 -- The places for what is made: enough for every month, and each part that was lent stands first when it is back.
 use mathlib.Core.List.{List}
 use mathlib.Core.Logic.{⊎_elim}
-use mathlib.Core.Path.{◌≡◌, sym, ◌∙◌, ap}
+use mathlib.Core.Path.{◌≡◌, sym, ◌∙◌, ap, subst}
 use Prim.Native.Nat.{ℕ, zero, suc, ◌+◌, ◌-◌, ◌≤◌, zero-le}
 use native.Mathlib.Nat.{sub-zero, zero-sub, suc-sub-suc}
 use borrow.Rule.Slice.PartMut.{mid_of, post_of, put_mid, mid_len, same_len_mid, drop_put}
@@ -12,7 +12,11 @@ use Rattle.file_sections.specs.Walk.{Accepted}
 use Rattle.file_sections.specs.declared.Sections.{Sections}
 use Rattle.file_sections.proofs.AcceptedFile.{month_whole, hours_are, parties_are, refixed_are}
 use Rattle.setting.specs.declared.Setting.{Setting}
-use Rattle.month_prepare.specs.Checks.{MadeIs, PreparedIs}
+use Rattle.std.specs.Prelude.{Result, Ok, Err}
+use Rattle.answer.specs.Said.{said}
+use Rattle.answer.specs.declared.Refused.{Refused}
+use Rattle.month_prepare.proofs.Hours.{no_figures, given_same}
+use Rattle.month_prepare.specs.Checks.{Making, MadeIs, Placed, PreparedIs}
 use Rattle.month_prepare.specs.declared.Made.{Made}
 use Rattle.month_prepare.specs.declared.Prepared.{Prepared}
 use Rattle.rules.specs.Limits.{most_hours, most_parties}
@@ -75,30 +79,39 @@ module _ (file : List ℕ) (s : Sections) (ok : Accepted file s) where
       (λ (h : length (month_of file).refixed ≡ H (month_of file)). omega (arith, refixed_are file s ok, hours_are file s ok, few_hours))
       (month_whole file s ok).none_or_all_refixed
 
-  -- all parts that were lent are back
-  pub prepared :
-      {setting : Setting} {made : Made} {f r c b fixed refixed curveNumbers begins : List ℕ}
-      → MadeIs setting (month_of file) made f r c b
-      → Stands s.heading.hours most_hours f fixed
-      → Stands s.refixed most_hours r refixed
-      → Stands s.heading.hours most_hours c curveNumbers
-      → Stands (s.heading.hours + 1) (suc most_hours) b begins
-      → PreparedIs setting file s (record { made = made; fixed_wh = fixed; refixed_wh = refixed; curve = curveNumbers; beginnings = begins })
-  prepared is f r c b =
-      record {
-        fixed_places = f.size;
-        refixed_places = r.size;
-        curve_places = c.size;
-        beginnings_places = b.size;
-        fixed_past = f.past;
-        refixed_past = r.past;
-        curve_past = c.past;
-        beginnings_past = b.past;
-        is = rw (f.first, r.first, c.first, b.first) is;
-      }
+  module _ {setting : Setting} {made : Result Made Refused} {f r c b : List ℕ} (is : MadeIs setting (month_of file) made f r c b) where
+    -- a check before the hours refuses, and nothing is prepared
+    pub none_prepared : {x : Refused} → made ≡ Err x → {p : Result Prepared Refused} → p ≡ Err x → PreparedIs setting file s p
+    none_prepared e on =
+        record { verdict = ap said on ∙ sym (ap said e) ∙ is.verdict; prepared = λ x g. absurd (no_figures on g) }
+
+    -- none does, and all parts that were lent are back
+    pub prepared :
+        {given : Made}
+        → made ≡ Ok given
+        → {fixed refixed curveNumbers begins : List ℕ}
+        → Stands s.heading.hours most_hours f fixed
+        → Stands s.refixed most_hours r refixed
+        → Stands s.heading.hours most_hours c curveNumbers
+        → Stands (s.heading.hours + 1) (suc most_hours) b begins
+        → PreparedIs setting file s (Ok (record { made = given; fixed_wh = fixed; refixed_wh = refixed; curve = curveNumbers; beginnings = begins }))
+    prepared {given} e {fixed} {refixed} {curveNumbers} {begins} f r c b =
+        let placed : Placed file s (record { made = given; fixed_wh = fixed; refixed_wh = refixed; curve = curveNumbers; beginnings = begins }) =
+        record {
+          fixed_places = f.size;
+          refixed_places = r.size;
+          curve_places = c.size;
+          beginnings_places = b.size;
+          fixed_past = f.past;
+          refixed_past = r.past;
+          curve_past = c.past;
+          beginnings_past = b.past;
+          is = rw (f.first, r.first, c.first, b.first) (is.made given e);
+        } in
+        record { verdict = sym (ap said e) ∙ is.verdict; prepared = λ x g. subst (Placed file s) (given_same g) placed }
 
 -- the parts of a month's arrays that its hours are walked with
-module _ {setting : Setting} {file : List ℕ} {s : Sections} (ok : Accepted file s) {r : Prepared} (p : PreparedIs setting file s r) where
+module _ {file : List ℕ} {s : Sections} (ok : Accepted file s) {r : Prepared} (p : Placed file s r) where
   pub fixed_enough : s.heading.hours ≤ length r.fixed_wh
   fixed_enough = omega (arith, p.fixed_places, few_hours file s ok)
 
@@ -112,7 +125,7 @@ module _ {setting : Setting} {file : List ℕ} {s : Sections} (ok : Accepted fil
   beginnings_enough = omega (arith, p.beginnings_places, few_hours file s ok)
 
   pub as_lent :
-      MadeIs setting (month_of file) r.made
+      Making (month_of file) r.made
       (take (s.heading.hours - 0) r.fixed_wh) (take (s.refixed - 0) r.refixed_wh)
       (take (s.heading.hours - 0) r.curve) (take (s.heading.hours + 1 - 0) r.beginnings)
   as_lent = rw (sub-zero s.heading.hours, sub-zero s.refixed, sub-zero (s.heading.hours + 1)) p.is

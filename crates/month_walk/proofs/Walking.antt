@@ -6,22 +6,21 @@ use native.Mathlib.Nat.{not-suc-le-zero}
 use native.Mathlib.Omega.{arith}
 use lib.IntN.{ℤ}
 use lib.ListN.{length, get_or}
+use Rattle.std.specs.Prelude.{Result, Ok, Err, IsOk}
 use Rattle.answer.specs.Said.{said}
-use Rattle.answer.specs.declared.Answer.{Answer}
-use Rattle.answer.specs.declared.Answer.TheVariants.{Done, Refused}
-use Rattle.answer.specs.declared.Refusal.{Refusal}
+use Rattle.answer.specs.declared.Refused.{Refused}
 use Rattle.distribute.specs.Good.{Ready, Next}
 use Rattle.distribute.specs.declared.Carries.{Carries}
 use Rattle.file_sections.specs.declared.Sections.{Sections}
 use Rattle.file_sections.proofs.AcceptedFile.{month_whole, hours_are}
 use Rattle.hour_settled.specs.Column.{column, Column}
-use Rattle.month_walk.specs.declared.Opened.{Opened}
 use Rattle.month_walk.specs.declared.Held.{Held}
 use Rattle.month_walk.specs.declared.Walk.{Walk}
 use Rattle.month_walk.specs.Hours.{HourKnown, DistributedIs}
 use Rattle.month_walk.specs.Walking.{MonthKnown, Beginning, Holds, Holding, HoldsHour, OpenedIs, Walked, begun, SomeWindow, HourOn, SteppedIs, HourAsked, window_places}
 use Rattle.month_walk.proofs.Bounds.{few_hours, few_parties}
 use Rattle.month_walk.proofs.Carrying as C
+use Rattle.month_prepare.proofs.Hours.{no_figures, given_same}
 use Rattle.rules.specs.Limits.{greatest_periodised, most_hours}
 use Rattle.rules.specs.Month.{month_of, applied_wh, periodised, all_periodised, periodised_verdict}
 use Rattle.rules.specs.MonthFile.{MonthFile, H, P}
@@ -29,7 +28,7 @@ use Rattle.rules.specs.Refusals as R
 use Rattle.rules.specs.Words.{figures}
 use Rattle.rules.proofs.Loops.{figures_length, figures_at}
 use Rattle.rules.proofs.Month.{Judged, periodised_at_most}
-use Rattle.rules.proofs.Refusals.{in_turn_exactly}
+use Rattle.rules.proofs.Refusals.{in_turn_exactly, refused_not_accepted}
 use Rattle.rules.proofs.Whole.{heading_facts}
 
 -- before the first hour: there is no window yet, and its places may hold anything
@@ -90,34 +89,40 @@ module _ {file : List ℕ} {s : Sections} {applied curveNumbers beginnings : Lis
     pub holding : Holding m w.held w.t window
     holding = record { holds = at.holds; begun = at.begun; come = at.come; hour = b }
 
-    module _ {opened : Opened} {window' : List ℕ} (is : OpenedIs m w.t opened window') where
-      its_window : SomeWindow m window'
-      its_window = record { held = opened.held; some = omega (arith, is.begun, is.left); is = is.is }
+    pub ready : Ready w.carries (get_or applied w.t 0)
+    ready = C.ready m judged b at.carried (residual_is b)
 
-      pub step_stops : (x : Refusal) (place : ℕ) → opened.answer ≡ Refused x place → (w' : Walk) → w'.answer ≡ opened.answer → SteppedIs m w.t w' window'
-      step_stops x place e w' same =
-          record { window_is = its_window; on = λ done. absurd (never (sym e ∙ sym same ∙ done)); stopped = λ y q f. ap said same ∙ is.stopped y q (sym same ∙ f) }
-        where
-          never : ◌≡◌ {A = Answer} (Refused x place) Done → ⊥
-          never e = let z : ◌≡◌ {A = ℕ} 0 1 = cc in omega arith
-
-      pub ready : Ready w.carries (get_or applied w.t 0)
-      ready = C.ready m judged b at.carried (residual_is b)
+    module _ {opened : Result Held Refused} {window' : List ℕ} (is : OpenedIs m w.t opened window') where
+      pub step_stops : {x : Refused} → opened ≡ Err x → {r : Result Walk Refused} → r ≡ Err x → SteppedIs m w.t r window'
+      step_stops {x} e on =
+          record { window_is = is.window_is; on = λ w' f. absurd (no_figures on f); stopped = λ y f. ap said on ∙ sym (ap said e) ∙ is.stopped x e }
 
       pub step_on :
-          opened.answer ≡ Done
+          {held : Held}
+          → opened ≡ Ok held
           → {c : Carries}
           → Next w.carries (get_or applied w.t 0) c
-          → SteppedIs m w.t (record { answer = opened.answer; carries = c; t = w.t + 1; held = opened.held }) window'
-      step_on done {c} next =
-          let hour = is.opened done in
+          → SteppedIs m w.t (Ok (record { carries = c; t = w.t + 1; held = held })) window'
+      step_on {held} e {c} next =
+          let hour = is.opened held e in
           let carried = C.carried_next m judged b at.carried (residual_is b) next in
-          let come : w.t + 1 ≤ opened.held.start + opened.held.hours = omega (arith, hour.left) in
-          let begun : opened.held.start ≤ w.t + 1 = omega (arith, hour.begun) in
-          let walked : Walked m (record { answer = opened.answer; carries = c; t = w.t + 1; held = opened.held }) window' =
+          let come : w.t + 1 ≤ held.start + held.hours = omega (arith, hour.left) in
+          let begun : held.start ≤ w.t + 1 = omega (arith, hour.begun) in
+          let walked : Walked m (record { carries = c; t = w.t + 1; held = held }) window' =
           record { carried = carried; holds = hour.holds; begun = begun; come = come; last = λ b. omega (arith, hour.begun) } in
           let given = C.figures_are m judged b at.carried (residual_is b) next in
-          record { window_is = its_window; on = λ e. record { walked = walked; one_on = refl; hour = hour; distributed = given }; stopped = is.stopped }
+          let on : HourOn m w.t (record { carries = c; t = w.t + 1; held = held }) window' =
+          record { walked = walked; one_on = refl; hour = hour; distributed = given } in
+          record {
+            window_is = is.window_is;
+            on = λ w' f. subst (λ (x : Walk). HourOn m w.t x window') (given_same f) on;
+            stopped = λ y f. absurd (no_figures f refl);
+          }
+
+-- where no hour of the month is refused with 14, a step goes on
+pub step_goes_on : {m : MonthFile} {t : ℕ} {r : Result Walk Refused} {window : List ℕ} → SteppedIs m t r window → R.in_turn (H m) (periodised_verdict m) ≡ R.accepted → IsOk r
+step_goes_on {r = Ok w} is none = refl
+step_goes_on {r = Err x} is none = absurd (refused_not_accepted (is.stopped x refl ∙ none))
 
 -- an hour of a window
 module _ {file : List ℕ} {s : Sections} {t residual : ℕ} {x : Held} {distributed : List ℤ} {window : List ℕ} (a : HourAsked file s t residual x distributed window) where

@@ -2,22 +2,23 @@
 use native.Mathlib.Omega.{arith}
 use Prim.Native.Nat.{suc}
 use mathlib.Core.Path.{sym, ◌∙◌, ap}
+use Rattle.answer.proofs.Checks.{handed}
 use Rattle.month_prepare.proofs.Numbers.{few, curve_refused, numbers_many, begun_are, curve_known}
 use Rattle.month_prepare.proofs.curve_and_readings.Goals as goal
 
-pub returns-in_default : goal.returns-in_default
-returns-in_default c = curve_refused c.requires c.curve-fit.ensures.answer _ c.curve-fit.ensures.contents c.in_default.is _
+pub returns-in_err-curve : goal.returns-in_err-curve
+returns-in_err-curve c = curve_refused c.requires c.curve.ensures.answer _ c.curve.ensures.contents c.in_err-curve.was (handed c.from_residual.ensures) _
 
 pub beginnings-requires : goal.beginnings-requires
 beginnings-requires c =
     record {
       out_len = c.requires.beginnings_size
           ∙ ap suc
-          (sym (numbers_many c.requires c.curve-fit.ensures.answer _ c.curve-fit.ensures.contents c.in-Done.is));
+          (sym (numbers_many c.requires c.curve.ensures.answer _ c.curve.ensures.contents c.in_ok-curve.was));
       curve_len_bound = omega (
         arith,
         few c.requires,
-        numbers_many c.requires c.curve-fit.ensures.answer _ c.curve-fit.ensures.contents c.in-Done.is,
+        numbers_many c.requires c.curve.ensures.answer _ c.curve.ensures.contents c.in_ok-curve.was,
       );
     }
 
@@ -25,11 +26,11 @@ pub judge_readings-requires : goal.judge_readings-requires
 judge_readings-requires c =
     record {
       accepted = c.requires.accepted;
-      beginnings_value = begun_are c.requires c.curve-fit.ensures.answer _ c.curve-fit.ensures.contents c.in-Done.is
+      beginnings_value = begun_are c.requires c.curve.ensures.answer _ c.curve.ensures.contents c.in_ok-curve.was
           c.beginnings.ensures;
     }
 
 pub returns : goal.returns
 returns c =
-    curve_known c.requires c.curve-fit.ensures.answer _ c.curve-fit.ensures.contents c.in-Done.is
-    c.beginnings.ensures c.judge_readings.result c.judge_readings.ensures
+    curve_known c.requires c.curve.ensures.answer _ c.curve.ensures.contents c.in_ok-curve.was
+    c.beginnings.ensures c.judge_readings.ensures

@@ -2,7 +2,8 @@
 use Prim.Native.Nat.{suc}
 use native.Mathlib.Omega.{arith}
 use Rattle.rules.specs.Limits.{most_hours}
-use Rattle.month_prepare.proofs.Preparing.{so_many, few_hours, few_refixed, stands, prepared}
+use Rattle.answer.proofs.Checks.{handed}
+use Rattle.month_prepare.proofs.Preparing.{so_many, few_hours, few_refixed, stands, none_prepared, prepared}
 use borrow.Author.Rules.{rules}
 use Rattle.month_prepare.proofs.prepare.Goals as goal
 
@@ -18,8 +19,8 @@ slice_bounds-curve-end c = omega (arith, so_many most_hours c.hour_places-curve.
 pub slice_bounds-beginnings-end : goal.slice_bounds-beginnings-end
 slice_bounds-beginnings-end c = omega (arith, so_many (suc most_hours) c.beginning_places-beginnings.ensures, few_hours _ _ c.requires)
 
-pub make-made-requires : goal.make-made-requires
-make-made-requires c =
+pub make-requires : goal.make-requires
+make-requires c =
     record {
       accepted = c.requires;
       fixed_size = search rules;
@@ -28,9 +29,12 @@ make-made-requires c =
       beginnings_size = search rules;
     }
 
+pub returns-in_err-made : goal.returns-in_err-made
+returns-in_err-made c = none_prepared _ _ c.requires c.make.ensures c.in_err-made.was (handed c.from_residual.ensures)
+
 pub returns : goal.returns
 returns c =
-    prepared _ _ c.requires c.make-made.ensures
+    prepared _ _ c.requires c.make.ensures c.in_ok-made.was
     (stands _ _ _ c.hour_places-fixed_wh.ensures (few_hours _ _ c.requires) (search rules))
     (stands _ _ _ c.hour_places-refixed_wh.ensures (few_refixed _ _ c.requires) (search rules))
     (stands _ _ _ c.hour_places-curve.ensures (few_hours _ _ c.requires) (search rules))

@@ -11,17 +11,17 @@ pub weight_between-skipped-requires : goal.weight_between-skipped-requires
 weight_between-skipped-requires c = ordered c.requires (omega arith) (omega arith)
 
 pub offset_bounds-out-low : goal.offset_bounds-out-low
-offset_bounds-out-low c = omega (arith, c.slot-low.ensures, c.requires.places, c.if-begin-end.true, c.earlier-end.ensures)
+offset_bounds-out-low c = omega (arith, c.slot-low.ensures, c.requires.places, c.if-begin-end.true, c.min-end.ensures)
 
 pub add-requires : goal.add-requires
 add-requires c =
-    let both = run_asked c.requires c.later-begin.ensures c.earlier-end.ensures c.if-begin-end.true c.weight_between-own.ensures c.weight_between-skipped.ensures
+    let both = run_asked c.requires c.max-begin.ensures c.min-end.ensures c.if-begin-end.true c.weight_between-own.ensures c.weight_between-skipped.ensures
     c.slot-low.ensures c.slot-high.ensures c.spread_of.ensures in record { part = both.0; room = both.1 }
 
 pub returns-then-begin-end : goal.returns-then-begin-end
 returns-then-begin-end c =
-    run_added c.requires c.later-begin.ensures c.earlier-end.ensures c.if-begin-end.true c.weight_between-own.ensures c.weight_between-skipped.ensures
+    run_added c.requires c.max-begin.ensures c.min-end.ensures c.if-begin-end.true c.weight_between-own.ensures c.weight_between-skipped.ensures
     c.slot-low.ensures c.slot-high.ensures c.spread_of.ensures c.add.ensures
 
 pub returns-else-begin-end : goal.returns-else-begin-end
-returns-else-begin-end c = none_added c.requires c.later-begin.ensures c.earlier-end.ensures c.if-begin-end.false
+returns-else-begin-end c = none_added c.requires c.max-begin.ensures c.min-end.ensures c.if-begin-end.false

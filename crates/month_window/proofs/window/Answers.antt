@@ -3,7 +3,7 @@ use mathlib.Core.Path.{◌∙◌}
 use native.Mathlib.Omega.{arith}
 use Rattle.month_window.proofs.Windows.{counted_start, taken, counted_next, counted_end}
 use Rattle.file_fields.specs.Fields.{ReadingPlaced}
-use Rattle.file_fields.proofs.Readers.{short_file, few_readings, reading_asked, next_place, next_within}
+use Rattle.file_fields.proofs.Readers.{short_file, reading_asked, next_place, next_within}
 use Rattle.month_series.proofs.OneReading.{none_before, one_further}
 use Rattle.month_window.proofs.window.Goals.{In-loop-j}
 use Rattle.month_window.proofs.window.Goals as goal
@@ -13,7 +13,7 @@ here : (c : In-loop-j) → ReadingPlaced c.args.file.now c.args.s c.loop-j.j c.l
 here c = record { accepted = c.requires.accepted; number = omega arith; is = c.loop-j.invariant.1 }
 
 pub loop-j-init : goal.loop-j-init
-loop-j-init c = (counted_start c.requires c.clear.ensures, none_before _ _)
+loop-j-init c = (counted_start c.requires c.fill.ensures, none_before _ _)
 
 pub reading-x-requires : goal.reading-x-requires
 reading-x-requires c = reading_asked _ _ _ _ (here c)
@@ -23,9 +23,6 @@ add_reading-requires c = taken c.requires c.loop-j.invariant.0 (here (goal.at.ad
 
 pub overflow_add-place : goal.overflow_add-place
 overflow_add-place c = omega (arith, next_within _ _ _ _ (here (goal.at.overflow_add-place c).In-loop-j) c.reading-x.ensures c.reading_size-place.ensures, short_file c.args.file.now c.args.s c.requires.accepted)
-
-pub overflow_add-j : goal.overflow_add-j
-overflow_add-j c = omega (arith, few_readings c.args.file.now c.args.s c.requires.accepted)
 
 pub loop-j-preserved : goal.loop-j-preserved
 loop-j-preserved c = (
