@@ -1,6 +1,6 @@
 -- The refusals after a file is read, up to the readings (01 "Refusal numbers"; 02, W1): 17; "Then 6; then the fixed hours in order, each 7, 8, 9; the refixed
 -- hours likewise; 10 by hour; 13 by reading" (02, W3: 18 and 13); and what is made on the way. The setting decides the verdict; no figure depends on it.
-use Rattle.std.specs.Prelude.{List, ◌≡◌, ℕ, suc, ◌+◌, ◌-◌, ◌<◌, pos, length, replicate, take, drop, Result, Ok}
+use Rattle.std.specs.Prelude.{List, ◌≡◌, ℕ, suc, ◌+◌, ◌-◌, ◌<◌, length, replicate, take, drop, Result, Ok}
 use Rattle.answer.specs.Said.{said}
 use Rattle.answer.specs.declared.Refused.{Refused}
 use Rattle.distribute.specs.Good.{Started}

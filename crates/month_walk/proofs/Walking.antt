@@ -16,7 +16,7 @@ use Rattle.file_sections.proofs.AcceptedFile.{month_whole, hours_are}
 use Rattle.hour_settled.specs.Column.{column, Column}
 use Rattle.month_walk.specs.declared.Held.{Held}
 use Rattle.month_walk.specs.declared.Walk.{Walk}
-use Rattle.month_walk.specs.Hours.{HourKnown, DistributedIs}
+use Rattle.month_walk.specs.Hours.{HourKnown}
 use Rattle.month_walk.specs.Walking.{MonthKnown, Beginning, Holds, Holding, HoldsHour, OpenedIs, Walked, begun, SomeWindow, HourOn, SteppedIs, HourAsked, window_places}
 use Rattle.month_walk.proofs.Bounds.{few_hours, few_parties}
 use Rattle.month_walk.proofs.Carrying as C

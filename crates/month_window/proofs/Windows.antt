@@ -8,13 +8,14 @@ use native.Mathlib.Nat.{le_refl, le_trans, mul-le-mul_right}
 use native.Mathlib.Numerals.{add-one}
 use native.Mathlib.Omega.{arith}
 use lib.Dec.{eqb}
-use lib.ListN.{length}
+use lib.ListN.{length, replicate, length-replicate}
+use Rattle.std.proofs.lemmas.List.{get_or-replicate}
 use Rattle.file_fields.specs.Fields.{ReadingPlaced, ReadingIs}
 use Rattle.file_sections.specs.declared.Sections.{Sections}
 use Rattle.file_sections.proofs.AcceptedFile.{month_whole, readings_are}
 use Rattle.file_fields.proofs.Readers.{few_readings, reading_read}
 use Rattle.month_series.specs.Series.{beginning}
-use Rattle.month_window.specs.Window.{own_by, whole_by, figure_by, FitsBy, figure_to, no_wh, Window, Asked, Taken, Added}
+use Rattle.month_window.specs.Window.{own_by, whole_by, figure_by, FitsBy, figure_to, Window, Asked, Taken, Added}
 use Rattle.month_window.proofs.Figures.{own_cong, whole_cong, by_cong, by_at_most}
 use Rattle.record.specs.Record.{reading_of}
 use Rattle.record.specs.declared.Reading as CReading
@@ -22,7 +23,7 @@ use Rattle.rules.specs.Limits.{greatest_energy, longest_file}
 use Rattle.rules.specs.Month.{curve, month_of, reading_at, weight_of, S, whole_of, reading_figure, figure_for, periodised}
 use Rattle.rules.specs.MonthFile.{MonthFile, H, P}
 use Rattle.rules.specs.Record.{Reading}
-use Rattle.rules.specs.Words.{sum, at, figures}
+use Rattle.rules.specs.Words.{sum, at}
 use Rattle.rules.proofs.Loops.{figures_length, figures_at}
 use Rattle.rules.proofs.Readings.{weights_fit_lem, reading_fits}
 use Rattle.rules.proofs.Sums.{sum_cong, sum_at_most}
@@ -95,13 +96,13 @@ module _ {file : List ℕ} {s : Sections} {numbers beginnings : List ℕ} {start
       (mul-le-mul_right {m = length m.readings} {n = longest_file} greatest_energy (omega (arith, few_readings file s a.accepted, readings_are file s a.accepted)))
 
   -- nothing yet
-  pub counted_start : {out : List ℕ} → out ≡ figures lent no_wh → Counted m start hours out 0
-  unfolding at sum no_wh
+  pub counted_start : {out : List ℕ} → out ≡ replicate lent 0 → Counted m start hours out 0
+  unfolding at sum
   counted_start e =
       record {
         bound = zero-le;
-        size = ap length e ∙ figures_length lent no_wh ∙ a.size;
-        each = λ i k b c. ap (λ (l : List ℕ). at l (i * hours + k)) e ∙ figures_at lent no_wh (i * hours + k) 0 (omega (arith, a.size, party_places b));
+        size = ap length e ∙ length-replicate lent 0 ∙ a.size;
+        each = λ i k b c. ap (λ (l : List ℕ). at l (i * hours + k)) e ∙ get_or-replicate lent (i * hours + k) 0 0 (omega (arith, a.size, party_places b));
       }
 
   module _ {out : List ℕ} {j : ℕ} (n : Counted m start hours out j) where

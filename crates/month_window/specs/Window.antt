@@ -28,10 +28,6 @@ pub record Asked (file : List ℕ) (s : Sections) (curveNumbers beginnings : Lis
   pub inside : start + hours ≤ H (month_of file)
   pub size : lent ≡ P (month_of file) * hours
 
--- nothing yet in any place
-unfoldable pub no_wh : ℕ → ℕ
-no_wh k = 0
-
 -- The month's own weight of a reading, the weight of the whole reading, and its figure in hour t by these curve numbers: the rules' `S`, `whole_of` and
 -- `reading_figure`, told of the curve alone.
 unfoldable pub own_by : (ℕ → ℕ) → Reading → ℕ

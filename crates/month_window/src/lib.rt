@@ -2,11 +2,10 @@
 // each the run of its hours that lies in it is worked out, what the hours before that run weigh being a difference of two of the curve's beginnings.
 #![tactic(auto)]
 
-ghost use Rattle.std.specs.Prelude.{◌≡◌, ◌+◌, ◌-◌, ◌*◌, ◌^◌, ◌≤◌, ◌<◌, max, min, length};
-ghost use Rattle.month_window.specs.Window.{Asked, Window, Taken, Added, no_wh};
+ghost use Rattle.std.specs.Prelude.{◌≡◌, ◌+◌, ◌*◌, ◌^◌, ◌<◌, length};
+ghost use Rattle.month_window.specs.Window.{Asked, Window, Taken, Added};
 ghost use Rattle.record.specs.Record.{reading_of};
 ghost use Rattle.rules.specs.Month.{month_of};
-ghost use Rattle.rules.specs.Words.{at, figures};
 
 use file_sections::Sections;
 use record::Reading;

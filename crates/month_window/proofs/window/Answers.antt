@@ -13,7 +13,7 @@ here : (c : In-loop-j) → ReadingPlaced c.args.file.now c.args.s c.loop-j.j c.l
 here c = record { accepted = c.requires.accepted; number = omega arith; is = c.loop-j.invariant.1 }
 
 pub loop-j-init : goal.loop-j-init
-loop-j-init c = (counted_start c.requires c.fill.ensures, none_before _ _)
+loop-j-init c = (counted_start c.requires (c.fill.ensures.after (λ y e. e)), none_before _ _)
 
 pub reading-x-requires : goal.reading-x-requires
 reading-x-requires c = reading_asked _ _ _ _ (here c)
