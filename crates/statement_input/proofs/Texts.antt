@@ -7,10 +7,11 @@ use native.Mathlib.Nat.{zero-add}
 use native.Mathlib.Omega.{arith}
 use borrow.Author.Tests.{le-leb}
 use lib.ListN.{length, take}
-use Rattle.answer.specs.Said.{named}
-use Rattle.answer.specs.declared.Refusal.{Refusal}
+use Rattle.std.specs.Prelude.{Result, Ok, Err}
+use Rattle.answer.specs.Said.{verdict_of}
+use Rattle.answer.specs.declared.Refused.{Refused}
 use Rattle.rules.specs.Month.{file_verdict}
-use Rattle.rules.specs.Refusals.{Verdict, refused, unless, afterwards}
+use Rattle.rules.specs.Refusals.{Verdict, unless, afterwards}
 use Rattle.rules.specs.Setting as Run
 use Rattle.rules.specs.Statement as T
 use Rattle.rules.proofs.Refusals.{then_accepted, given_tells, refusal_tells}
@@ -23,8 +24,6 @@ use Rattle.standard_input.proofs.Endings.{whole_text, too_long_text, failed_text
 use Rattle.statement_input.specs.Inputs.{Printed, input_text}
 use Rattle.statement_text.specs.Stating.{per_of, statement_room, verdict, told, text_verdict, Promised}
 use Rattle.statement_text.specs.declared.Per.{Per}
-use Rattle.statement_text.specs.declared.Stated.{Stated}
-use Rattle.statement_text.specs.declared.Stated.TheVariants.{Lines, Refused}
 use Rattle.statement_text.proofs.Statements.{refusal_text_lem, too_long_line}
 use Rattle.text.specs.Text.{LinePut, refusal_text, at_start}
 use Rattle.text.proofs.Puts.{put_at_start}
@@ -36,7 +35,7 @@ unfolding at_start
 line_printed {text} enough line =
     record { told = line.put.ends ∙ zero-add (length text); contents = put_at_start line.put (omega (arith, line.within)) }
 
-module _ (setting : Setting) (per : Per) (file old : List ℕ) {held : List ℕ} {stated : Stated} (p : Promised setting per file old stated held) where
+module _ (setting : Setting) (per : Per) (file old : List ℕ) {held : List ℕ} {stated : Result ℕ Refused} (p : Promised setting per file old stated held) where
   abbrev v : Verdict
   v = text_verdict setting file (length old)
 
@@ -44,28 +43,28 @@ module _ (setting : Setting) (per : Per) (file old : List ℕ) {held : List ℕ}
   text = T.statement_per (per_of per) (asked setting) file
 
   -- AN ACCEPTED MONTH: its lines stand there already
-  pub lines_printed : {n : ℕ} → stated ≡ Lines n → Printed text old n held
+  pub lines_printed : {n : ℕ} → stated ≡ Ok n → Printed text old n held
   unfolding afterwards
   lines_printed {n} e =
       record {
         told = (given_tells v (length text) (sym (ap told e) ∙ p.answer)).1;
-        contents = p.contents ∙ ap (λ (s : Stated). afterwards (verdict s) (at_start text old) old) e;
+        contents = p.contents ∙ ap (λ (s : Result ℕ Refused). afterwards (verdict s) (at_start text old) old) e;
       }
 
   -- A REFUSED ONE, in a buffer that has room for every statement: so 16 does not arise, and its statement is the refusal line
-  module _ (room : statement_room ≤ length old) {r : Refusal} {place : ℕ} (e : stated ≡ Refused r place) where
+  module _ (room : statement_room ≤ length old) {x : Refused} (e : stated ≡ Err x) where
     only_the_file : v ≡ file_verdict Run.needed (asked setting) file
     unfolding text_verdict unless
     only_the_file = rw (le-leb statement_room (length old) room) (then_accepted (file_verdict Run.needed (asked setting) file))
 
     refusal_is : refusal_text (verdict stated) ≡ text
     refusal_is =
-        let told-so : v ≡ refused (named r) place = refusal_tells v (length text) (sym (ap told e) ∙ p.answer) in
-        ap (λ (s : Stated). refusal_text (verdict s)) e ∙ sym (refusal_text_lem (asked setting) (per_of per) file (sym only_the_file ∙ told-so))
+        let told-so : v ≡ verdict_of x = refusal_tells v (length text) (sym (ap told e) ∙ p.answer) in
+        ap (λ (s : Result ℕ Refused). refusal_text (verdict s)) e ∙ sym (refusal_text_lem (asked setting) (per_of per) file (sym only_the_file ∙ told-so))
 
     untouched : held ≡ old
     unfolding afterwards
-    untouched = p.contents ∙ ap (λ (s : Stated). afterwards (verdict s) (at_start text old) old) e
+    untouched = p.contents ∙ ap (λ (s : Result ℕ Refused). afterwards (verdict s) (at_start text old) old) e
 
     pub refusal_printed : {line n : ℕ} {new : List ℕ} → line ≤ length held → LinePut (refusal_text (verdict stated)) held 0 line new n → Printed text old n new
     refusal_printed enough put = rw (refusal_is, untouched) at (line_printed enough put)

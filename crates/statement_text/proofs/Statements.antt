@@ -7,10 +7,11 @@ use native.Mathlib.Omega.{arith}
 use borrow.Author.Tests.{le-leb, lt-leb}
 use lib.Dec.{leb}
 use lib.ListN.{length, drop}
-use Rattle.answer.specs.Said.{said, named}
-use Rattle.answer.specs.declared.Answer.TheVariants.{Done}
-use Rattle.answer.specs.declared.Refusal.{Refusal}
+use Rattle.std.specs.Prelude.{Result, Ok, Err}
+use Rattle.answer.specs.Said.{said, verdict_of}
 use Rattle.answer.specs.declared.Refusal.TheVariants.{WrongLength}
+use Rattle.answer.specs.declared.Refused.{Refused}
+use Rattle.answer.proofs.Checks.{unwritten}
 use Rattle.month_sums.specs.Outcomes.{OutcomeIs}
 use Rattle.month_sums.specs.declared.Outcome.{Outcome}
 use Rattle.file_sections.specs.Walk.{AcceptedPriced}
@@ -30,7 +31,6 @@ use Rattle.setting.specs.declared.Setting.{Setting}
 use Rattle.party_lines.specs.Lines.{Settled}
 use Rattle.statement_text.specs.Stating.{per_of, statement_room, told, text_verdict, Promised}
 use Rattle.statement_text.specs.declared.Per.{Per}
-use Rattle.statement_text.specs.declared.Stated.TheVariants as S
 use Rattle.statement_lines.specs.Rooms.{heading_room, columns_room}
 use Rattle.text.specs.Text.{Put, LinePut, at_start}
 use Rattle.text.proofs.Puts.{put_then, put_as, put_length, put_at_start}
@@ -56,7 +56,8 @@ module _ (file : List ℕ) (s : Sections) {sums : Sums} (settled : Settled file 
           }
 
 -- A MONTH THAT WAS ACCEPTED
-module _ (setting : Setting) (file : List ℕ) (s : Sections) (ok : AcceptedPriced file s) {outcome : Outcome} (is : OutcomeIs setting (month_of file) outcome) (done : outcome.answer ≡ Done) where
+module _ (setting : Setting) (file : List ℕ) (s : Sections) (ok : AcceptedPriced file s) {r : Result Outcome Refused} (is : OutcomeIs setting (month_of file) r)
+    {outcome : Outcome} (done : r ≡ Ok outcome) where
   abbrev m : MonthFile
   m = month_of file
 
@@ -64,10 +65,10 @@ module _ (setting : Setting) (file : List ℕ) (s : Sections) (ok : AcceptedPric
   no_refusal = sym is.verdict ∙ ap said done
 
   pub settled : Settled file s outcome.sums
-  settled = record { setting = asked setting; read = read_without needed file s ok; no_refusal = no_refusal; sums_are = is.sums (ap said done) }
+  settled = record { setting = asked setting; read = read_without needed file s ok; no_refusal = no_refusal; sums_are = is.sums outcome done }
 
   pub counted : outcome.estimated ≡ estimated_hours m
-  counted = is.estimated (ap said done)
+  counted = is.estimated outcome done
 
   file_accepted : file_verdict needed (asked setting) file ≡ R.accepted
   unfolding file_verdict verdict_on
@@ -84,7 +85,7 @@ module _ (setting : Setting) (file : List ℕ) (s : Sections) (ok : AcceptedPric
     statement_is = ap (T.answered_statement (per_of per) (asked setting)) (read_as needed file s ok) ∙ ap (T.judged_statement (per_of per) m) no_refusal
 
     pub too_short :
-        (lent : ℕ) → lent < statement_room → told (S.Refused WrongLength 0) ≡ R.answer (text_verdict setting file lent) (length (T.statement_per (per_of per) (asked setting) file))
+        (lent : ℕ) → lent < statement_room → told (Err (WrongLength, 0)) ≡ R.answer (text_verdict setting file lent) (length (T.statement_per (per_of per) (asked setting) file))
     unfolding R.answer R.unless
     too_short lent b =
         let v : text_verdict setting file lent ≡ R.refused R.wrong_length 0 =
@@ -93,7 +94,7 @@ module _ (setting : Setting) (file : List ℕ) (s : Sections) (ok : AcceptedPric
 
     pub stated :
         {old new : List ℕ} {n : ℕ} → statement_room ≤ length old → LinePut (T.statement_lines (per_of per) m) old 0 statement_room new n
-        → Promised setting per file old (S.Lines n) new
+        → Promised setting per file old (Ok n) new
     unfolding R.answer R.afterwards R.unless at_start
     stated {old} {new} {n} room l =
         let v : text_verdict setting file (length old) ≡ R.accepted =
@@ -106,13 +107,19 @@ module _ (setting : Setting) (file : List ℕ) (s : Sections) (ok : AcceptedPric
         }
 
 -- a refused file: nothing is written
-pub refused_file : (setting : Setting) (per : Per) (file : List ℕ) (x : Refusal) (place : ℕ) (old : List ℕ) → file_verdict needed (asked setting) file ≡ R.refused (named x) place
-    → Promised setting per file old (S.Refused x place) old
-unfolding R.answer R.afterwards text_verdict R.and_then
-refused_file setting per file x place old e =
-    let v : text_verdict setting file (length old) ≡ R.refused (named x) place =
+pub refused_file :
+    (setting : Setting) (per : Per) (file : List ℕ) {x : Refused} {r : Result ℕ Refused} (old : List ℕ)
+    → r ≡ Err x
+    → file_verdict needed (asked setting) file ≡ verdict_of x
+    → Promised setting per file old r old
+unfolding R.answer text_verdict R.and_then
+refused_file setting per file {x} old on e =
+    let v : text_verdict setting file (length old) ≡ verdict_of x =
     ap (λ (w : R.Verdict). R.and_then w (R.unless (leb statement_room (length old)) R.wrong_length 0)) e in
-    record { answer = ap (λ (w : R.Verdict). R.answer w (length (T.statement_per (per_of per) (asked setting) file))) (sym v); contents = refl }
+    record {
+      answer = ap told on ∙ ap (λ (w : R.Verdict). R.answer w (length (T.statement_per (per_of per) (asked setting) file))) (sym v);
+      contents = unwritten _ _ on;
+    }
 
 -- and its statement is its refusal line
 pub refusal_text_lem :

@@ -7,4 +7,4 @@ pub returns-in_default : goal.returns-in_default
 returns-in_default c = refusal_printed _ _ _ _ c.statement-stated.ensures c.requires c.in_default.is (search rules) c.refusal_line.ensures
 
 pub returns : goal.returns
-returns c = lines_printed _ _ _ _ c.statement-stated.ensures c.in-Lines.is
+returns c = lines_printed _ _ _ _ c.statement-stated.ensures c.in-Ok.is
