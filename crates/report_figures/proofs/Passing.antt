@@ -5,9 +5,9 @@ use Prim.Native.Nat.{ℕ, ◌<◌, ◌≤◌}
 use native.Mathlib.Omega.{arith}
 use lib.IntN.{ℤ}
 use lib.ListN.{length}
+use Rattle.std.specs.Prelude.{Result, Ok, Err}
 use Rattle.answer.specs.Said.{said}
-use Rattle.answer.specs.declared.Answer.TheVariants.{Done, Refused}
-use Rattle.answer.specs.declared.Refusal.{Refusal}
+use Rattle.answer.specs.declared.Refused.{Refused}
 use Rattle.distribute.specs.declared.Carries.{Carries}
 use Rattle.file_sections.specs.declared.Sections.{Sections}
 use Rattle.file_sections.proofs.AcceptedFile.{hours_are}
@@ -23,7 +23,6 @@ use Rattle.rules.specs.Month.{month_of, all_periodised, periodised_verdict}
 use Rattle.rules.specs.MonthFile.{MonthFile, H}
 use Rattle.rules.specs.Refusals.{in_turn}
 use Rattle.rules.proofs.Loops.{fill_start}
-use Rattle.rules.proofs.Refusals.{refused_not_accepted}
 
 -- The hours that the walk has come past are passed.
 pub record Going (m : MonthFile) (window : List ℕ) (w : Walk) (x : Distances) (d : List ℤ) (p : List ℕ) : Type 0 where
@@ -67,29 +66,26 @@ module _ {file : List ℕ} {s : Sections} {applied curveNumbers beginnings : Lis
     pub step_asked : StepAsked m w window
     step_asked = record { walked = g.walked; hour = in_month_holds }
 
-    module _ {r : Walk} {window' : List ℕ} (is : SteppedIs m w.t r window') where
+    module _ {r : Result Walk Refused} {window' : List ℕ} (is : SteppedIs m w.t r window') where
       -- it is refused, so the month is
-      pub stops :
-          {v : Refusal} {place : ℕ}
-          → r.answer ≡ Refused v place → (y : Distances) (e : List ℤ) (q : List ℕ)
-          → MonthPassed m (record { answer = r.answer; distances = y }) e q
-      stops {v} {place} e y o q =
-          record { verdict = is.stopped v place e; after = λ a. absurd (refused_not_accepted (sym (ap said e) ∙ a)) }
+      pub stops : {v : Refused} {out : Result Distances Refused} → r ≡ Err v → out ≡ Err v → (e : List ℤ) (q : List ℕ) → MonthPassed m out e q
+      stops {v} e on o q =
+          record { verdict = ap said on ∙ sym (ap said e) ∙ is.stopped v e; after = λ y a. let z : ◌≡◌ {A = ℕ} 0 1 = cc in absurd (omega arith) }
 
-      module _ (done : r.answer ≡ Done) where
-        pub hour_asked : HourAsked r w.t window' (length d) (length p)
-        hour_asked = OneHour.hour_asked known in_month_holds (is.on done) g.passed
+      module _ {w' : Walk} (done : r ≡ Ok w') where
+        pub hour_asked : HourAsked w' w.t window' (length d) (length p)
+        hour_asked = OneHour.hour_asked known in_month_holds (is.on w' done) g.passed
 
-        pub goes_on : {y : Distances} {d' : List ℤ} {p' : List ℕ} → HourPassed x r w.t window' d p y d' p' → Going m window' r y d' p'
-        goes_on one = record { walked = (is.on done).walked; passed = OneHour.one_hour_on known in_month_holds (is.on done) g.passed one }
+        pub goes_on : {y : Distances} {d' : List ℤ} {p' : List ℕ} → HourPassed x w' w.t window' d p y d' p' → Going m window' w' y d' p'
+        goes_on one = record { walked = (is.on w' done).walked; passed = OneHour.one_hour_on known in_month_holds (is.on w' done) g.passed one }
 
   -- none is left
   pub ends :
       {window : List ℕ} {w : Walk} {x : Distances} {d : List ℤ} {p : List ℕ}
       → Going m window w x d p
       → s.heading.hours ≤ w.t
-      → MonthPassed m (record { answer = Done; distances = x }) d p
+      → MonthPassed m (Ok x) d p
   ends {window} {w} {x} {d} {p} g b =
       let e : w.t ≡ H m = omega (arith, walk_inside g.walked, all_is) in
       let verdict = sym (ap (λ (n : ℕ). in_turn n (periodised_verdict m)) (sym e) ∙ walk_passed g.walked) in
-      record { verdict = verdict; after = λ a. subst (λ (n : ℕ). PassedTo m n x d p) e g.passed }
+      record { verdict = verdict; after = λ y same. let is : x ≡ y = cc in rw (← is, ← e) g.passed }

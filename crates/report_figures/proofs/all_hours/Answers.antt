@@ -1,8 +1,9 @@
 -- `report_figures::all_hours` meets its contract: what is made before the hours, and the hours. Assumes nothing.
 use Prim.Native.Nat.{suc, ◌+◌}
 use native.Mathlib.Omega.{arith}
+use Rattle.answer.proofs.Checks.{handed}
 use Rattle.month_prepare.proofs.Preparing.{so_many, few_hours}
-use Rattle.report_figures.proofs.Making.{sums_lent, part_enough, as_lent_again, so_made}
+use Rattle.report_figures.proofs.Making.{sums_lent, not_made, part_enough, made_again, none_refused}
 use Rattle.rules.specs.Limits.{most_hours}
 use borrow.Author.Rules.{rules}
 use Rattle.report_figures.proofs.all_hours.Goals as goal
@@ -10,8 +11,8 @@ use Rattle.report_figures.proofs.all_hours.Goals as goal
 pub slice_bounds-beginnings-end : goal.slice_bounds-beginnings-end
 slice_bounds-beginnings-end c = omega (arith, so_many (suc most_hours) c.beginning_places-beginnings.ensures, few_hours _ _ c.requires.accepted)
 
-pub make-made-requires : goal.make-made-requires
-make-made-requires c =
+pub make-requires : goal.make-requires
+make-requires c =
     record {
       accepted = c.requires.accepted;
       fixed_size = c.requires.fixed_size;
@@ -20,17 +21,20 @@ make-made-requires c =
       beginnings_size = search rules;
     }
 
+pub returns-in_err-made : goal.returns-in_err-made
+returns-in_err-made c = not_made c.make.ensures c.in_err-made.was (handed c.from_residual.ensures)
+
 pub slice_bounds-pass_made-end : goal.slice_bounds-pass_made-end
 slice_bounds-pass_made-end c =
-    part_enough c.make-made.ensures (c.args.s.heading.hours + 1)
+    part_enough c.make.ensures (c.args.s.heading.hours + 1)
     c.beginning_places-beginnings.result (so_many (suc most_hours) c.beginning_places-beginnings.ensures) (omega (arith, few_hours _ _ c.requires.accepted)) c.beginnings-2-1.given
 
 pub pass_made-requires : goal.pass_made-requires
 pass_made-requires c = record {
   accepted = c.requires.accepted;
   made_so =
-      so_made c.make-made.ensures (c.args.s.heading.hours + 1)
-      c.beginning_places-beginnings.result (so_many (suc most_hours) c.beginning_places-beginnings.ensures) (omega (arith, few_hours _ _ c.requires.accepted)) c.beginnings-2-1.given;
+      made_again c.make.ensures (c.args.s.heading.hours + 1)
+      c.beginning_places-beginnings.result (so_many (suc most_hours) c.beginning_places-beginnings.ensures) (omega (arith, few_hours _ _ c.requires.accepted)) c.beginnings-2-1.given c.in_ok-made.was;
   sums_lent = sums_lent c.requires;
 }
 
@@ -51,6 +55,4 @@ shape_of-periodised_wh c = c.periodised_wh-1.given
 
 pub returns : goal.returns
 returns c =
-    c.pass_made.ensures.under _
-    (as_lent_again c.make-made.ensures (c.args.s.heading.hours + 1)
-    c.beginning_places-beginnings.result (so_many (suc most_hours) c.beginning_places-beginnings.ensures) (omega (arith, few_hours _ _ c.requires.accepted)) c.beginnings-2-1.given)
+    c.pass_made.ensures.under _ (none_refused c.make.ensures c.in_ok-made.was)

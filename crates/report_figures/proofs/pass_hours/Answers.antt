@@ -1,6 +1,7 @@
 -- `report_figures::pass_hours` meets its contract: the hours that the walk has come past are passed. Assumes nothing.
 use mathlib.Core.Path.{sym, ◌∙◌}
 use native.Mathlib.Omega.{arith}
+use Rattle.answer.proofs.Checks.{handed}
 use Rattle.month_walk.proofs.Walking.{some_hours, walk_window}
 use Rattle.report_figures.proofs.Passing.{goes, step_asked, stops, hour_asked, goes_on, ends}
 use Rattle.report_figures.proofs.pass_hours.Goals as goal
@@ -8,29 +9,30 @@ use Rattle.report_figures.proofs.pass_hours.Goals as goal
 pub loop-walk-init : goal.loop-walk-init
 loop-walk-init c = rw (c.none-distances.ensures, c.begin-walk.ensures) (goes c.requires.month_known c.requires.beginning c.requires.window_len c.requires.sums_lent)
 
-pub step-walk-requires : goal.step-walk-requires
-step-walk-requires c = record { month_known = c.requires.month_known; step_asked = step_asked c.requires.month_known c.loop-walk.invariant (omega arith) }
+pub step-requires : goal.step-requires
+step-requires c = record { month_known = c.requires.month_known; step_asked = step_asked c.requires.month_known c.loop-walk.invariant (omega arith) }
 
-pub shape_of-window-in_default : goal.shape_of-window-in_default
-shape_of-window-in_default c = c.window-1.given ∙ c.loop-walk.invariant.walked.holds.is.size ∙ sym c.requires.window_len
+pub shape_of-window-in_err-walk : goal.shape_of-window-in_err-walk
+shape_of-window-in_err-walk c = c.window-1.given ∙ c.loop-walk.invariant.walked.holds.is.size ∙ sym c.requires.window_len
 
-pub shape_of-distributed_wh-in_default : goal.shape_of-distributed_wh-in_default
-shape_of-distributed_wh-in_default c = c.loop-walk.invariant.passed.distributed.size ∙ sym c.requires.sums_lent.distributed_size
+pub shape_of-distributed_wh-in_err-walk : goal.shape_of-distributed_wh-in_err-walk
+shape_of-distributed_wh-in_err-walk c = c.loop-walk.invariant.passed.distributed.size ∙ sym c.requires.sums_lent.distributed_size
 
-pub shape_of-periodised_wh-in_default : goal.shape_of-periodised_wh-in_default
-shape_of-periodised_wh-in_default c = c.loop-walk.invariant.passed.periodised.size ∙ sym c.requires.sums_lent.periodised_size
+pub shape_of-periodised_wh-in_err-walk : goal.shape_of-periodised_wh-in_err-walk
+shape_of-periodised_wh-in_err-walk c = c.loop-walk.invariant.passed.periodised.size ∙ sym c.requires.sums_lent.periodised_size
 
-pub returns-in_default : goal.returns-in_default
-returns-in_default c = record { passed = stops c.requires.month_known c.loop-walk.invariant (omega arith) c.step-walk.ensures c.in_default.is _ _ _; window = c.step-walk.ensures.window_is }
+pub returns-in_err-walk : goal.returns-in_err-walk
+returns-in_err-walk c =
+    record { passed = stops c.requires.month_known c.loop-walk.invariant (omega arith) c.step.ensures c.in_err-walk.was (handed c.from_residual.ensures) _ _; window = c.step.ensures.window_is }
 
 pub pass_hour-distances-requires : goal.pass_hour-distances-requires
-pass_hour-distances-requires c = hour_asked c.requires.month_known c.loop-walk.invariant (omega arith) c.step-walk.ensures c.in-Done.is
+pass_hour-distances-requires c = hour_asked c.requires.month_known c.loop-walk.invariant (omega arith) c.step.ensures c.in_ok-walk.was
 
 pub loop-walk-smaller : goal.loop-walk-smaller
-loop-walk-smaller c = omega (arith, (c.step-walk.ensures.on c.in-Done.is).one_on)
+loop-walk-smaller c = omega (arith, (c.step.ensures.on _ c.in_ok-walk.was).one_on)
 
 pub loop-walk-preserved : goal.loop-walk-preserved
-loop-walk-preserved c = goes_on c.requires.month_known c.loop-walk.invariant (omega arith) c.step-walk.ensures c.in-Done.is c.pass_hour-distances.ensures
+loop-walk-preserved c = goes_on c.requires.month_known c.loop-walk.invariant (omega arith) c.step.ensures c.in_ok-walk.was c.pass_hour-distances.ensures
 
 pub shape_of-window : goal.shape_of-window
 shape_of-window c = c.loop-walk.invariant.walked.holds.is.size ∙ sym c.requires.window_len

@@ -1,20 +1,16 @@
 -- `report_figures::pass_made` meets its contract: refused before the hours, or these are passed. Assumes nothing.
-use mathlib.Core.Path.{refl, ap}
-use Rattle.answer.specs.Said.{said}
+use mathlib.Core.Path.{refl}
+use Rattle.answer.proofs.Checks.{handed}
 use Rattle.month_walk.proofs.Chain.{month_known, beginning}
-use Rattle.report_figures.proofs.Making.{not_made, numbers_made}
+use Rattle.report_figures.proofs.Making.{hour_refused, numbers_made}
 use borrow.Author.Rules.{rules}
 use Rattle.report_figures.proofs.pass_made.Goals as goal
 
-pub returns-in_default : goal.returns-in_default
-returns-in_default c = not_made c.in_default.is _ _ _
-
-pub pass_hours-passed-requires : goal.pass_hours-passed-requires
-pass_hours-passed-requires c =
-    let made = c.requires.made_so.made (ap said c.in-Done.is) in
+pub pass_hours-requires : goal.pass_hours-requires
+pass_hours-requires c =
     record {
-      month_known = month_known _ _ c.requires.accepted made refl c.applied-applied_wh.ensures;
-      beginning = beginning _ _ c.requires.accepted made;
+      month_known = month_known _ _ c.requires.accepted c.requires.made_so refl c.applied-applied_wh.ensures;
+      beginning = beginning _ _ c.requires.accepted c.requires.made_so;
       window_len = search rules;
       sums_lent = c.requires.sums_lent;
     }
@@ -25,5 +21,8 @@ shape_of-distributed_wh c = c.distributed_wh-1.given
 pub shape_of-periodised_wh : goal.shape_of-periodised_wh
 shape_of-periodised_wh c = c.periodised_wh-1.given
 
+pub returns-in_err-distances : goal.returns-in_err-distances
+returns-in_err-distances c = hour_refused c.pass_hours.ensures.passed c.in_err-distances.was (handed c.from_residual.ensures)
+
 pub returns : goal.returns
-returns c = numbers_made c.in-Done.is c.pass_hours-passed.ensures.passed
+returns c = numbers_made c.pass_hours.ensures.passed c.requires.made_so c.in_ok-distances.was
