@@ -6,10 +6,9 @@ use Prim.Native.Nat.{ℕ, ◌*◌}
 use native.Mathlib.Omega.{arith}
 use lib.IntN.{ℤ}
 use lib.ListN.{length}
-use Rattle.answer.specs.Said.{said, named}
-use Rattle.answer.specs.declared.Answer.{Answer}
-use Rattle.answer.specs.declared.Answer.TheVariants.{Done, Refused}
-use Rattle.answer.specs.declared.Refusal.{Refusal}
+use Rattle.std.specs.Prelude.{Result, Ok, Err, ⊤}
+use Rattle.answer.specs.Said.{said, verdict_of}
+use Rattle.answer.specs.declared.Refused.{Refused}
 use Rattle.file_sections.specs.Walk.{Accepted}
 use Rattle.file_sections.specs.declared.Sections.{Sections}
 use Rattle.file_sections.proofs.AcceptedFile.{hours_are, parties_are}
@@ -21,7 +20,7 @@ use Rattle.setting.specs.Asked.{asked}
 use Rattle.setting.specs.declared.Setting.{Setting}
 use Rattle.rules.specs.Month.{month_of, file_verdict}
 use Rattle.rules.specs.MonthFile.{H, P}
-use Rattle.rules.specs.Refusals.{out_of_range, wrong_length, Verdict, accepted, refused, unless, and_then, afterwards}
+use Rattle.rules.specs.Refusals.{out_of_range, wrong_length, Verdict, accepted, unless, and_then, afterwards}
 use Rattle.rules.specs.Setting.{optional}
 use Rattle.rules.proofs.Refusals.{both_accept, unless_exactly}
 
@@ -31,36 +30,37 @@ module _ (setting : Setting) (file : List ℕ) (start hours : ℕ) (d : List ℤ
 
   -- a refused call leaves every lent output as it was
   refused_call :
-      {r : Answer} {v : Refusal} {place : ℕ}
-      → r ≡ Refused v place
+      {r : Result ⊤ Refused} {v : Refused}
+      → r ≡ Err v
       → said r ≡ run_verdict setting file start hours (length d) (length p) (length x) (length l)
       → Promised setting file start hours r d p x l d p x l
   unfolding afterwards
-  refused_call {r} {v} {place} e is =
+  refused_call e is =
       record { answer = is; distributed = rw e refl; periodised = rw e refl; differences = rw e refl; losses = rw e refl }
 
   -- where the file itself is refused, nothing more is asked
   pub refused_file :
-      {r : Answer} {v : Refusal} {place : ℕ}
-      → r ≡ Refused v place
-      → file_verdict optional (asked setting) file ≡ refused (named v) place
+      {r : Result ⊤ Refused} {v : Refused}
+      → r ≡ Err v
+      → file_verdict optional (asked setting) file ≡ verdict_of v
       → Promised setting file start hours r d p x l d p x l
   unfolding run_verdict and_then
-  refused_file {r} {v} {place} e is =
+  refused_file e is =
       refused_call e (ap said e ∙ sym (ap (λ (u : Verdict). and_then u verdict_asked) is))
 
 -- 14: what is made before the hours refuses nothing, and an hour does
 pub refused_hour :
-    (file : List ℕ) (start hours : ℕ) (d : List ℤ) (p : List ℕ) (x l : List ℤ) {r : Answer} {v : Refusal} {place : ℕ}
-    → said r ≡ all_limited (month_of file)
-    → r ≡ Refused v place
+    (file : List ℕ) (start hours : ℕ) (d : List ℤ) (p : List ℕ) (x l : List ℤ) {limited r : Result ⊤ Refused} {v : Refused}
+    → said limited ≡ all_limited (month_of file)
+    → limited ≡ Err v
+    → r ≡ Err v
     → HoursAnswered file start hours r d p x l d p x l
-refused_hour file start hours d p x l limited e =
-    record { under = λ setting decides. refused_file setting file start hours d p x l e (decides ∙ sym limited ∙ ap said e) }
+refused_hour file start hours d p x l is e on =
+    record { under = λ setting decides. refused_file setting file start hours d p x l on (decides ∙ sym is ∙ ap said e) }
 
 -- no hour is refused, so what is asked of the month decides
 module _ {file : List ℕ} {s : Sections} (ok : Accepted file s) (none : all_limited (month_of file) ≡ accepted) where
-  module _ (start hours d p x l : ℕ) (right : Answer) (judged : said right ≡ asked_verdict s.heading.hours s.heading.parties start hours d p x l) where
+  module _ (start hours d p x l : ℕ) (right : Result ⊤ Refused) (judged : said right ≡ asked_verdict s.heading.hours s.heading.parties start hours d p x l) where
     run_verdict_lem : (setting : Setting) → file_verdict optional (asked setting) file ≡ all_limited (month_of file) → said right ≡ run_verdict setting file start hours d p x l
     unfolding run_verdict and_then
     run_verdict_lem setting decides =
@@ -69,7 +69,7 @@ module _ {file : List ℕ} {s : Sections} (ok : Accepted file s) (none : all_lim
         (ap (λ (u : Verdict). and_then u (asked_verdict (H (month_of file)) (P (month_of file)) start hours d p x l)) (decides ∙ none)
         ∙ ap₂ (λ (h n : ℕ). asked_verdict h n start hours d p x l) (sym (hours_are file s ok)) (sym (parties_are file s ok)))
 
-    module _ (passed : right ≡ Done) where
+    module _ (passed : right ≡ Ok tt) where
       both : (in_month s.heading.hours start hours ≡ true) × (lent_right (hours * s.heading.parties) hours d p x l ≡ true)
       unfolding asked_verdict
       both =
@@ -94,21 +94,21 @@ module _ {file : List ℕ} {s : Sections} (ok : Accepted file s) (none : all_lim
             differences_size = as_many sizes.2;
           }
 
-  module _ (start hours : ℕ) (d : List ℤ) (p : List ℕ) (x l : List ℤ) {right : Answer}
+  module _ (start hours : ℕ) (d : List ℤ) (p : List ℕ) (x l : List ℤ) {right : Result ⊤ Refused}
       (judged : said right ≡ asked_verdict s.heading.hours s.heading.parties start hours (length d) (length p) (length x) (length l)) where
     -- 4 or 16
-    pub refused_run : {v : Refusal} {place : ℕ} → right ≡ Refused v place → HoursAnswered file start hours right d p x l d p x l
-    refused_run e =
+    pub refused_run : {v : Refused} {r : Result ⊤ Refused} → right ≡ Err v → r ≡ Err v → HoursAnswered file start hours r d p x l d p x l
+    refused_run e on =
         record {
           under = λ setting decides.
-              refused_call setting file start hours d p x l e (run_verdict_lem start hours (length d) (length p) (length x) (length l) right judged setting decides);
+              refused_call setting file start hours d p x l on (ap said on ∙ sym (ap said e) ∙ run_verdict_lem start hours (length d) (length p) (length x) (length l) right judged setting decides);
         }
 
     pub written :
-        right ≡ Done
+        right ≡ Ok tt
         → {d' : List ℤ} {p' : List ℕ} {x' l' : List ℤ}
         → RunIs (month_of file) start (length l) d' p' x' l'
-        → HoursAnswered file start hours Done d p x l d' p' x' l'
+        → HoursAnswered file start hours (Ok tt) d p x l d' p' x' l'
     unfolding afterwards
     written passed {d'} {p'} {x'} {l'} r =
         let as_many : length l ≡ hours = (sizes start hours (length d) (length p) (length x) (length l) right judged passed).3 in

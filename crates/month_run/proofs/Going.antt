@@ -6,9 +6,9 @@ use native.Mathlib.Nat.{le_refl, zero-mul}
 use native.Mathlib.Omega.{arith}
 use lib.IntN.{ℤ}
 use lib.ListN.{length, get_or}
+use Rattle.std.specs.Prelude.{Result, Ok, Err, IsOk}
 use Rattle.answer.specs.Said.{said}
-use Rattle.answer.specs.declared.Answer.{Answer}
-use Rattle.answer.specs.declared.Answer.TheVariants.{Done, Refused}
+use Rattle.answer.specs.declared.Refused.{Refused}
 use Rattle.distribute.specs.declared.Carries.{Carries}
 use Rattle.file_sections.specs.declared.Sections.{Sections}
 use Rattle.month_run.specs.InRun.{distributed_in_run, periodised_in_run, loss_in_run}
@@ -86,14 +86,14 @@ module _ {file : List ℕ} {s : Sections} {applied curveNumbers beginnings : Lis
     pub step_asked : StepAsked m w window
     step_asked = record { walked = g.walked; hour = in_month_holds }
 
-    module _ {r : Walk} {window' : List ℕ} (is : SteppedIs m w.t r window') where
-      done : (a : Answer) → r.answer ≡ a → r.answer ≡ Done
-      done Done e = e
-      done (Refused v place) e =
-          absurd (refused_not_accepted (sym (ap said e) ∙ is.stopped v place e ∙ known.none_refuses))
+    -- none of the month's is refused, so this one is not
+    pub steps : (r : Result Walk Refused) {window' : List ℕ} → SteppedIs m w.t r window' → IsOk r
+    steps (Ok r) is = refl
+    steps (Err x) is = absurd (refused_not_accepted (is.stopped x refl ∙ known.none_refuses))
 
+    module _ {r : Walk} {stepped : Result Walk Refused} {window' : List ℕ} (is : SteppedIs m w.t stepped window') (done : stepped ≡ Ok r) where
       on : HourOn m w.t r window'
-      on = is.on (done r.answer refl)
+      on = is.on r done
 
       pub one_on : r.t ≡ w.t + 1
       one_on = on.one_on

@@ -6,9 +6,9 @@ use native.Mathlib.Nat.{zero-add, mul-le-mul_right}
 use native.Mathlib.Omega.{arith}
 use lib.IntN.{ℤ, pos}
 use lib.ListN.{get_or}
+use Rattle.std.specs.Prelude.{Result, Ok, ⊤}
 use Rattle.answer.specs.Said.{said}
-use Rattle.answer.specs.declared.Answer.{Answer}
-use Rattle.answer.specs.declared.Answer.TheVariants.{Done}
+use Rattle.answer.specs.declared.Refused.{Refused}
 use Rattle.answer.proofs.Said.{said_once}
 use Rattle.month_run.specs.Run.{Promised}
 use Rattle.month_run.specs.InRun.{distributed_in_run, periodised_in_run, loss_in_run}
@@ -38,7 +38,7 @@ there figure nothing hours n t i b l =
 
 -- the run of all hours of an accepted month
 module _ {setting : Setting} {file : List ℕ} {d₀ : List ℤ} {p₀ : List ℕ} {x₀ l₀ d : List ℤ} {p : List ℕ} {x l : List ℤ}
-    (r : Promised setting file 0 (H (month_of file)) Done d₀ p₀ x₀ l₀ d p x l) where
+    (r : Promised setting file 0 (H (month_of file)) (Ok tt) d₀ p₀ x₀ l₀ d p x l) where
   abbrev m : MonthFile
   m = month_of file
 
@@ -72,7 +72,7 @@ module _ {setting : Setting} {file : List ℕ} {d₀ : List ℤ} {p₀ : List �
       ∙ ap (loss m) (zero-add t)))
 
 -- two answers with lent outputs that both meet the promise are equal
-module _ (setting : Setting) (file : List ℕ) (start hours : ℕ) {a b : Answer}
+module _ (setting : Setting) (file : List ℕ) (start hours : ℕ) {a b : Result ⊤ Refused}
     {d₀ : List ℤ} {p₀ : List ℕ} {x₀ l₀ d d' : List ℤ} {p p' : List ℕ} {x l x' l' : List ℤ}
     (u : Promised setting file start hours a d₀ p₀ x₀ l₀ d p x l)
     (v : Promised setting file start hours b d₀ p₀ x₀ l₀ d' p' x' l') where

@@ -1,15 +1,15 @@
 -- `month_run::hours` meets its contract: refused in the reading, or what the month that was read comes to. Assumes nothing.
-use mathlib.Core.Path.{refl}
+use Rattle.answer.proofs.Checks.{handed}
 use Rattle.setting.specs.declared.Prices.TheVariants.{Optional}
 use Rattle.file_sections.proofs.Told.{not_read, is_read}
 use Rattle.month_run.proofs.Answers.{refused_file}
 use Rattle.month_run.proofs.hours.Goals as goal
 
 pub hours_accepted-requires : goal.hours_accepted-requires
-hours_accepted-requires c = is_read Optional _ c.read-read.ensures c.in-Accepted.is
+hours_accepted-requires c = is_read Optional _ c.read.ensures c.in_ok-s.was
 
-pub returns-in-Refused : goal.returns-in-Refused
-returns-in-Refused c = refused_file _ _ _ _ _ _ _ _ refl (not_read Optional c.args.setting _ c.read-read.ensures c.in-Refused.is)
+pub returns-in_err-s : goal.returns-in_err-s
+returns-in_err-s c = refused_file _ _ _ _ _ _ _ _ (handed c.from_residual.ensures) (not_read Optional c.args.setting _ c.read.ensures c.in_err-s.was)
 
 pub shape_of-distributed_wh : goal.shape_of-distributed_wh
 shape_of-distributed_wh c = c.distributed_wh-1.given
@@ -23,5 +23,5 @@ shape_of-differences_wh c = c.differences_wh-1.given
 pub shape_of-losses_wh : goal.shape_of-losses_wh
 shape_of-losses_wh c = c.losses_wh-1.given
 
-pub returns-in-Accepted : goal.returns-in-Accepted
-returns-in-Accepted c = c.hours_accepted.ensures
+pub returns : goal.returns
+returns c = c.hours_accepted.ensures

@@ -1,16 +1,7 @@
--- `month_run::put_wh` meets its contract: whatever series the list is filled with, each turn fills one place more. Assumes nothing.
+-- `month_run::put_wh` meets its contract: what is copied to the place is the first of the figures. Assumes nothing.
 use native.Mathlib.Omega.{arith}
-use Rattle.distribute.proofs.Putting.{put_start, put_next, put_end}
+use Rattle.distribute.proofs.Putting.{put_part}
 use Rattle.month_run.proofs.put_wh.Goals as goal
 
-pub loop-i-init : goal.loop-i-init
-loop-i-init c = put_start
-
-pub loop-i-preserved : goal.loop-i-preserved
-loop-i-preserved c = put_next c.loop-i.invariant (omega arith)
-
-pub shape_of-out : goal.shape_of-out
-shape_of-out c = c.loop-i.invariant.size
-
 pub returns : goal.returns
-returns c = put_end c.loop-i.invariant (omega arith)
+returns c = put_part (omega arith) c.requires.1 c.copy_from_slice.ensures.after

@@ -1,7 +1,7 @@
 -- `month_run::run_hours` meets its contract: of the hours that the walk has come past those of the run are written. Assumes nothing.
 use mathlib.Core.Path.{sym, ◌∙◌}
 use native.Mathlib.Omega.{arith}
-use Rattle.month_run.proofs.Going.{goes, residual_here_lem, few_here, in_run, running_here, step_asked, one_on, hour_asked, goes_on, ends}
+use Rattle.month_run.proofs.Going.{goes, residual_here_lem, few_here, in_run, running_here, step_asked, steps, one_on, hour_asked, goes_on, ends}
 use Rattle.month_walk.proofs.Bounds.{few_hours}
 use Rattle.month_walk.proofs.Walking.{walk_window}
 use Rattle.month_run.proofs.run_hours.Goals as goal
@@ -12,8 +12,11 @@ overflow_add-end c = omega (arith, c.requires.run_lent.inside, few_hours _ c.req
 pub loop-walk-init : goal.loop-walk-init
 loop-walk-init c = rw c.begin-walk.ensures (goes c.requires.run_known c.requires.beginning c.requires.window_len c.requires.run_lent)
 
-pub step-walk-requires : goal.step-walk-requires
-step-walk-requires c = record { month_known = c.requires.run_known.month; step_asked = step_asked c.requires.run_known c.requires.run_lent.inside c.loop-walk.invariant (omega arith) }
+pub step-requires : goal.step-requires
+step-requires c = record { month_known = c.requires.run_known.month; step_asked = step_asked c.requires.run_known c.requires.run_lent.inside c.loop-walk.invariant (omega arith) }
+
+pub unwrap-walk-requires : goal.unwrap-walk-requires
+unwrap-walk-requires c = steps c.requires.run_known c.requires.run_lent.inside c.loop-walk.invariant (omega arith) c.step.result c.step.ensures
 
 pub offset_bounds-applied_wh-t : goal.offset_bounds-applied_wh-t
 offset_bounds-applied_wh-t c = omega (arith, few_here c.requires.run_known c.requires.run_lent.inside c.loop-walk.invariant (omega arith))
@@ -27,16 +30,16 @@ bounds-applied_wh-t c =
 pub run_hour-requires : goal.run_hour-requires
 run_hour-requires c =
     record {
-      hour_asked = hour_asked c.requires.run_known c.requires.run_lent.inside c.loop-walk.invariant (omega arith) c.step-walk.ensures;
+      hour_asked = hour_asked c.requires.run_known c.requires.run_lent.inside c.loop-walk.invariant (omega arith) c.step.ensures c.unwrap-walk.ensures;
       t_bound = in_run c.requires.run_known c.requires.run_lent.inside c.loop-walk.invariant (omega arith);
       running = running_here c.requires.run_known c.requires.run_lent.inside c.loop-walk.invariant (omega arith);
     }
 
 pub loop-walk-smaller : goal.loop-walk-smaller
-loop-walk-smaller c = omega (arith, one_on c.requires.run_known c.requires.run_lent.inside c.loop-walk.invariant (omega arith) c.step-walk.ensures)
+loop-walk-smaller c = omega (arith, one_on c.requires.run_known c.requires.run_lent.inside c.loop-walk.invariant (omega arith) c.step.ensures c.unwrap-walk.ensures)
 
 pub loop-walk-preserved : goal.loop-walk-preserved
-loop-walk-preserved c = goes_on c.requires.run_known c.requires.run_lent.inside c.loop-walk.invariant (omega arith) c.step-walk.ensures c.run_hour.ensures
+loop-walk-preserved c = goes_on c.requires.run_known c.requires.run_lent.inside c.loop-walk.invariant (omega arith) c.step.ensures c.unwrap-walk.ensures c.run_hour.ensures
 
 pub shape_of-window : goal.shape_of-window
 shape_of-window c = c.loop-walk.invariant.walked.holds.is.size ∙ sym c.requires.window_len
