@@ -5,12 +5,13 @@ use mathlib.Core.Path.{◌≡◌, sym, ◌∙◌, ap}
 use Prim.Native.Nat.{ℕ}
 use lib.Dec.{eqb}
 use lib.IntN.{ℤ}
-use Rattle.answer.specs.Said.{said}
-use Rattle.answer.specs.declared.Answer.TheVariants.{Done}
-use Rattle.report_text.specs.Lines.{Known, NumbersOf, Distanced}
+use Rattle.std.specs.Prelude.{Result, Ok, Err}
+use Rattle.answer.specs.Said.{said, verdict_of}
+use Rattle.answer.specs.declared.Refused.{Refused}
+use Rattle.report_text.specs.Lines.{Known, Distanced}
 use Rattle.report_text.specs.Reporting.{Answered, Promised}
-use Rattle.report_text.specs.declared.Reported.{Reported}
-use Rattle.report_text.proofs.Reports.{answered_as}
+use Rattle.report_text.specs.declared.Lines.{Lines}
+use Rattle.report_text.proofs.Reports.{refused_month, answered_as}
 use Rattle.month_prepare.proofs.Applied.{applied_figures}
 use Rattle.file_sections.specs.Walk.{Accepted}
 use Rattle.file_sections.specs.declared.Sections.{Sections}
@@ -19,27 +20,31 @@ use Rattle.report_figures.specs.Hourly.{HourlyMade, HourlyIs}
 use Rattle.report_figures.specs.declared.Hourly.{Hourly}
 use Rattle.residual.specs.Applied.{applied_of}
 use Rattle.rules.specs.Month.{month_of, estimated_hours, verdict_on, file_verdict}
+use Rattle.rules.specs.Refusals.{accepted}
 use Rattle.rules.specs.Setting.{optional}
 use Rattle.setting.specs.Asked.{asked}
 use Rattle.setting.specs.declared.Setting.{Setting}
 
-module _ (file : List ℕ) (s : Sections) (ok : Accepted file s) {made : Hourly} {fixed refixed curveNumbers : List ℕ} {distributed : List ℤ} {periodised : List ℕ} where
+module _ (file : List ℕ) (s : Sections) (ok : Accepted file s) {fixed refixed curveNumbers : List ℕ} {distributed : List ℤ} {periodised : List ℕ} where
   -- the verdict that they come with is the file's: what is answered by it is what the file is to be answered
-  pub by_the_file :
-      (setting : Setting)
-      → HourlyIs setting (month_of file) made fixed refixed curveNumbers distributed periodised
-      → {first rest parties : List ℕ} {r : Reported} {first' rest' parties' : List ℕ}
-      → Answered (said made.answer) (month_of file) first rest parties r first' rest' parties'
-      → Promised setting file first rest parties r first' rest' parties'
-  unfolding file_verdict verdict_on
-  by_the_file setting is {first} {rest} {parties} answered =
-      answered_as (month_of file) first rest parties (is.verdict ∙ sym (ap (verdict_on (asked setting)) (read_as optional file s ok))) answered
+  module _ (setting : Setting) {r : Result Hourly Refused} (is : HourlyIs setting (month_of file) r fixed refixed curveNumbers distributed periodised) where
+    of_the_file : said r ≡ file_verdict optional (asked setting) file
+    unfolding file_verdict verdict_on
+    of_the_file = is.verdict ∙ sym (ap (verdict_on (asked setting)) (read_as optional file s ok))
+
+    module _ {first rest parties : List ℕ} {answer : Result Lines Refused} where
+      pub refused_figures : {x : Refused} → r ≡ Err x → answer ≡ Err x → Promised setting file first rest parties answer first rest parties
+      refused_figures e on = refused_month (month_of file) first rest parties (sym of_the_file ∙ ap said e) on
+
+      pub by_the_file :
+          {made : Hourly} {first' rest' parties' : List ℕ}
+          → r ≡ Ok made
+          → Answered accepted (month_of file) first rest parties answer first' rest' parties'
+          → Promised setting file first rest parties answer first' rest' parties'
+      by_the_file done = answered_as (month_of file) first rest parties (sym (ap said done) ∙ of_the_file)
 
   -- no check refused it
-  module _ (numbers : NumbersOf (month_of file) made fixed refixed curveNumbers distributed periodised) (done : made.answer ≡ Done) where
-    abbrev all : HourlyMade (month_of file) made fixed refixed curveNumbers distributed periodised
-    all = numbers (ap said done)
-
+  module _ {made : Hourly} (all : HourlyMade (month_of file) made fixed refixed curveNumbers distributed periodised) where
     pub known :
         {has : Bool}
         → has ≡ not (eqb s.refixed 0)

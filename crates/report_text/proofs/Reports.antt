@@ -7,17 +7,17 @@ use native.Mathlib.Omega.{arith}
 use borrow.Author.Tests.{le-leb, leb-true}
 use lib.Dec.{leb}
 use lib.ListN.{length}
-use Rattle.answer.specs.Said.{named}
-use Rattle.answer.specs.declared.Refusal.{Refusal}
+use Rattle.std.specs.Prelude.{Result, Ok, Err}
+use Rattle.answer.specs.Said.{verdict_of}
+use Rattle.answer.specs.declared.Refused.{Refused}
 use Rattle.answer.specs.declared.Refusal.TheVariants.{WrongLength}
 use Rattle.report_text.specs.Lines.{first_room, rest_room, parties_room, first_part, rest_part, parties_part, Roomy}
 use Rattle.report_text.specs.Reporting.{lengths_of, told, rooms, report_verdict, Answered}
-use Rattle.report_text.specs.declared.Reported.{Reported}
-use Rattle.report_text.specs.declared.Reported.TheVariants as S
+use Rattle.report_text.specs.declared.Lines.{Lines}
 use Rattle.report_text.proofs.Parts.{parts_make_the_report}
 use Rattle.file_sections.proofs.AcceptedFile.{month_of_lem}
 use Rattle.file_sections.proofs.Walking.{too_long}
-use Rattle.answer.proofs.Checks.{flag_off}
+use Rattle.answer.proofs.Checks.{flag_off, unwritten}
 use Rattle.rules.specs.HoursReport.{judged_report, answered_report, hours_report}
 use Rattle.rules.specs.Limits.{longest_file}
 use Rattle.rules.specs.Month.{month_of, verdict_on, file_verdict}
@@ -50,16 +50,15 @@ module _ (m : MonthFile) where
 
   -- 16
   pub too_short :
-      {ofFile : R.Verdict} (first rest parties : ℕ) {room : Bool}
-      → ofFile ≡ R.accepted
+      (first rest parties : ℕ) {room : Bool}
       → room ≡ rooms first rest parties
       → not room ≡ true
-      → told (S.Refused WrongLength 0) ≡ R.answer (report_verdict ofFile first rest parties) (lengths_of m)
+      → told (Err (WrongLength, 0)) ≡ R.answer (report_verdict R.accepted first rest parties) (lengths_of m)
   unfolding R.answer R.unless
-  too_short first rest parties {room} ok is none =
+  too_short first rest parties {room} is none =
       let v : report_verdict R.accepted first rest parties ≡ R.refused R.wrong_length 0 =
       report_verdict_lem first rest parties ∙ ap (λ (t : Bool). R.unless t R.wrong_length 0) (sym is ∙ flag_off room none) in
-      ap (λ (w : R.Verdict). R.answer w (lengths_of m)) (sym (ap (λ (w : R.Verdict). report_verdict w first rest parties) ok ∙ v))
+      ap (λ (w : R.Verdict). R.answer w (lengths_of m)) (sym v)
 
   module _ (first rest parties : List ℕ) where
     -- its lines
@@ -69,7 +68,7 @@ module _ (m : MonthFile) where
         → LinePut (first_part m) first 0 first_room first' a
         → LinePut (rest_part m) rest 0 rest_room rest' b
         → LinePut (parties_part m) parties 0 parties_room parties' c
-        → Answered R.accepted m first rest parties (S.Lines a b c) first' rest' parties'
+        → Answered R.accepted m first rest parties (Ok (record { first = a; rest = b; parties = c })) first' rest' parties'
     unfolding R.answer R.afterwards R.unless at_start lengths_of
     reported room {first'} {rest'} {parties'} {a} {b} {c} x y z =
         let v : report_verdict R.accepted (length first) (length rest) (length parties) ≡ R.accepted =
@@ -88,17 +87,18 @@ module _ (m : MonthFile) where
 
     -- refused before: nothing is written
     pub refused_month :
-        {ofFile : R.Verdict} (x : Refusal) (place : ℕ)
-        → ofFile ≡ R.refused (named x) place
-        → Answered ofFile m first rest parties (S.Refused x place) first rest parties
-    unfolding R.answer R.afterwards report_verdict R.and_then
-    refused_month x place e =
+        {ofFile : R.Verdict} {x : Refused} {r : Result Lines Refused}
+        → ofFile ≡ verdict_of x
+        → r ≡ Err x
+        → Answered ofFile m first rest parties r first rest parties
+    unfolding R.answer report_verdict R.and_then
+    refused_month e on =
         let v = ap (λ (w : R.Verdict). R.and_then w (R.unless (rooms (length first) (length rest) (length parties)) R.wrong_length 0)) e in
-        record { answer = ap (λ (w : R.Verdict). R.answer w (lengths_of m)) (sym v); first_hours_holds = refl; other_hours = refl; all_parties = refl }
+        record { answer = ap told on ∙ ap (λ (w : R.Verdict). R.answer w (lengths_of m)) (sym v); first_hours_holds = unwritten _ _ on; other_hours = unwritten _ _ on; all_parties = unwritten _ _ on }
 
     -- the same by an equal verdict
     pub answered_as :
-        {v w : R.Verdict} → v ≡ w → {r : Reported} {first' rest' parties' : List ℕ} → Answered v m first rest parties r first' rest' parties' → Answered w m first rest parties r first' rest' parties'
+        {v w : R.Verdict} → v ≡ w → {r : Result Lines Refused} {first' rest' parties' : List ℕ} → Answered v m first rest parties r first' rest' parties' → Answered w m first rest parties r first' rest' parties'
     answered_as e {r} {first'} {rest'} {parties'} a = subst (λ (v : R.Verdict). Answered v m first rest parties r first' rest' parties') e a
 
 module _ (setting : Setting) (file : List ℕ) where

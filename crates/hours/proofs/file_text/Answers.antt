@@ -12,4 +12,4 @@ returns-in_default c =
     (stands.0, stands.1 ∙ refusal_printed Final _ _ _ _ c.report-reported.ensures c.requires c.in_default.is) in record { within = both.0; text = both.1 }
 
 pub returns : goal.returns
-returns c = let both = lines_printed Final _ _ _ _ c.report-reported.ensures c.in-Lines.is in record { within = both.0; text = both.1 }
+returns c = let both = lines_printed Final _ _ _ _ c.report-reported.ensures c.in-Ok.is in record { within = both.0; text = both.1 }

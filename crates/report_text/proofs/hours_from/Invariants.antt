@@ -1,5 +1,4 @@
 -- `report_text::hours_from` meets its contract: the lines of the hours passed stand one after the other. Assumes nothing.
-use Prim.Native.Nat.{◌-◌}
 use Rattle.report_text.specs.Lines.{line_from}
 use Rattle.report_lines.specs.Rooms.{hour_room}
 use Rattle.rules.specs.Month.{month_of}
@@ -8,6 +7,3 @@ use Rattle.report_text.proofs.hours_from.Given as goal
 
 abbrev pub invariant-loop-k : goal.invariant-loop-k
 invariant-loop-k l = Going (line_from (month_of l.file) l.start) l.hours hour_room l.initial.out l.place l.out l.end l.k
-
-abbrev pub decreases-loop-k : goal.decreases-loop-k
-decreases-loop-k l = l.hours - l.k
