@@ -6,8 +6,7 @@ use native.Mathlib.Nat.{le_refl, zero-mul}
 use native.Mathlib.Omega.{arith}
 use lib.IntN.{ℤ}
 use lib.ListN.{length, get_or}
-use Rattle.std.specs.Prelude.{Result, Ok, Err, IsOk}
-use Rattle.answer.specs.Said.{said}
+use Rattle.std.specs.Prelude.{Result, Ok}
 use Rattle.answer.specs.declared.Refused.{Refused}
 use Rattle.distribute.specs.declared.Carries.{Carries}
 use Rattle.file_sections.specs.declared.Sections.{Sections}
@@ -21,7 +20,6 @@ use Rattle.rules.specs.Month.{month_of}
 use Rattle.rules.specs.MonthFile.{MonthFile, H, P}
 use Rattle.rules.specs.Run.{difference_in_run}
 use Rattle.rules.proofs.Loops.{Filling, fill_start, fill_end}
-use Rattle.rules.proofs.Refusals.{refused_not_accepted}
 
 -- The hours that the walk has come past are written, of those that the run has.
 pub record Going (m : MonthFile) (start hours : ℕ) (window : List ℕ) (w : Walk) (d : List ℤ) (p : List ℕ) (x l : List ℤ) : Type 0 where
@@ -85,11 +83,6 @@ module _ {file : List ℕ} {s : Sections} {applied curveNumbers beginnings : Lis
 
     pub step_asked : StepAsked m w window
     step_asked = record { walked = g.walked; hour = in_month_holds }
-
-    -- none of the month's is refused, so this one is not
-    pub steps : (r : Result Walk Refused) {window' : List ℕ} → SteppedIs m w.t r window' → IsOk r
-    steps (Ok r) is = refl
-    steps (Err x) is = absurd (refused_not_accepted (is.stopped x refl ∙ known.none_refuses))
 
     module _ {r : Walk} {stepped : Result Walk Refused} {window' : List ℕ} (is : SteppedIs m w.t stepped window') (done : stepped ≡ Ok r) where
       on : HourOn m w.t r window'

@@ -1,17 +1,17 @@
 -- The checks of a month one after the other: one before the hours refuses, or an hour, or the numbers are the month's.
 use mathlib.Core.List.{List}
-use mathlib.Core.Path.{◌≡◌, sym, ◌∙◌, ap, subst}
+use mathlib.Core.Path.{◌≡◌, refl, sym, ◌∙◌, ap, subst}
 use Prim.Native.Nat.{ℕ, suc, ◌-◌, ◌≤◌}
 use native.Mathlib.Nat.{le_refl}
 use native.Mathlib.Omega.{arith}
 use lib.IntN.{ℤ}
 use lib.ListN.{length, take}
 use borrow.Rule.Slice.PartMut.{mid_of, put_mid}
-use Rattle.std.specs.Prelude.{Result, Ok, Err}
+use Rattle.std.specs.Prelude.{Result, Ok, Err, ⊤}
 use Rattle.answer.specs.Said.{said, verdict_of}
 use Rattle.answer.specs.declared.Refused.{Refused}
 use Rattle.report_distances.specs.declared.Distances.{Distances}
-use Rattle.month_walk.proofs.Chain.{in_two}
+use Rattle.month_walk.proofs.Chain as Chain
 use Rattle.month_prepare.specs.Checks.{making_verdict, Making, MadeIs}
 use Rattle.month_prepare.specs.declared.Made.{Made}
 use Rattle.month_prepare.proofs.Preparing.{still_as_many, lent_again}
@@ -21,12 +21,13 @@ use Rattle.report_figures.specs.Hourly.{HourlyAsked, HourlyMade, HourlyIs, Passe
 use Rattle.report_figures.specs.Passing.{SumsLent, MonthPassed}
 use Rattle.report_figures.specs.declared.Hourly as D
 use Rattle.report_figures.proofs.OneHour.{w_is}
+use Rattle.month_walk.specs.Hours.{all_limited}
 use Rattle.month_walk.proofs.Carrying.{carried_start}
 use Rattle.setting.specs.Asked.{asked}
 use Rattle.setting.specs.declared.Setting.{Setting}
 use Rattle.rules.specs.Month.{month_of, month_verdict, periodised_verdict}
 use Rattle.rules.specs.MonthFile.{MonthFile, H}
-use Rattle.rules.specs.Refusals.{Verdict, accepted, and_then, in_turn}
+use Rattle.rules.specs.Refusals.{accepted}
 use Rattle.rules.proofs.Loops.{fill_end}
 use Rattle.rules.proofs.Month.{Judged, heading_right, periodised_at_most}
 use Rattle.rules.proofs.Refusals.{in_turn_exactly}
@@ -41,9 +42,8 @@ abbrev numbers_of : Made → Distances → D.Hourly
 numbers_of made x = record { estimated = made.estimated; w = made.carries.w; distances = x }
 
 -- before the hours nothing refuses, so they decide
-hours_decide : (setting : Setting) (m : MonthFile) → making_verdict (asked setting) m ≡ accepted → month_verdict (asked setting) m ≡ in_turn (H m) (periodised_verdict m)
-unfolding and_then
-hours_decide setting m none = in_two (asked setting) m ∙ ap (λ (v : Verdict). and_then v (in_turn (H m) (periodised_verdict m))) none
+hours_decide : (setting : Setting) (m : MonthFile) → making_verdict (asked setting) m ≡ accepted → month_verdict (asked setting) m ≡ all_limited m
+hours_decide setting m none = Chain.hours_decide setting m {A = ⊤} {made = Ok tt} (sym none) refl
 
 -- refused, by a check before the hours or by an hour
 refused_month :
@@ -105,10 +105,7 @@ module _ {setting : Setting} {m : MonthFile} {made : Result Made Refused} {f r c
       → made ≡ Err x
       → out ≡ Err x
       → HourlyIs setting m out f r c d p
-  unfolding and_then
-  not_made {x} e on =
-      let v : making_verdict (asked setting) m ≡ verdict_of x = sym is.verdict ∙ ap said e in
-      refused_month on (sym (in_two (asked setting) m ∙ ap (λ (u : Verdict). and_then u (in_turn (H m) (periodised_verdict m))) v))
+  not_made e on = refused_month on (sym (ap said e) ∙ Chain.refused_before setting m is.verdict e)
 
   module _ (n : ℕ) (lent : List ℕ) {places : ℕ} (size : length lent ≡ places) (enough : n ≤ places) (same : length part ≡ length (mid_of 0 (n - 0) lent)) where
     pub part_enough : n ≤ length (put_mid 0 (n - 0) lent part)

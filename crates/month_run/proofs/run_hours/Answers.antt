@@ -1,9 +1,9 @@
 -- `month_run::run_hours` meets its contract: of the hours that the walk has come past those of the run are written. Assumes nothing.
 use mathlib.Core.Path.{sym, ◌∙◌}
 use native.Mathlib.Omega.{arith}
-use Rattle.month_run.proofs.Going.{goes, residual_here_lem, few_here, in_run, running_here, step_asked, steps, one_on, hour_asked, goes_on, ends}
+use Rattle.month_run.proofs.Going.{goes, residual_here_lem, few_here, in_run, running_here, step_asked, one_on, hour_asked, goes_on, ends}
 use Rattle.month_walk.proofs.Bounds.{few_hours}
-use Rattle.month_walk.proofs.Walking.{walk_window}
+use Rattle.month_walk.proofs.Walking.{walk_window, step_goes_on}
 use Rattle.month_run.proofs.run_hours.Goals as goal
 
 pub overflow_add-end : goal.overflow_add-end
@@ -16,7 +16,7 @@ pub step-requires : goal.step-requires
 step-requires c = record { month_known = c.requires.run_known.month; step_asked = step_asked c.requires.run_known c.requires.run_lent.inside c.loop-walk.invariant (omega arith) }
 
 pub unwrap-walk-requires : goal.unwrap-walk-requires
-unwrap-walk-requires c = steps c.requires.run_known c.requires.run_lent.inside c.loop-walk.invariant (omega arith) c.step.result c.step.ensures
+unwrap-walk-requires c = step_goes_on c.step.ensures c.requires.run_known.none_refuses
 
 pub offset_bounds-applied_wh-t : goal.offset_bounds-applied_wh-t
 offset_bounds-applied_wh-t c = omega (arith, few_here c.requires.run_known c.requires.run_lent.inside c.loop-walk.invariant (omega arith))
