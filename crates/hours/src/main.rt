@@ -93,25 +93,14 @@ fn input_text(
     }
 }
 
-// Prints all of a text, however many writes it takes.
-fn print<W: Write>(to: &mut W, text: &[u8]) -> Result<(), Fault>
-    ensures written { OnOk result (Appends (W.contents to.old) (W.contents to.new) text.now) }
-    ensures unwritten { IfErr result (λ fault. fault ≡ Fault.Output) }
-{
-    match to.write_all(text) {
-        Ok(()) => Ok(()),
-        Err(_) => Err(Fault::Output),
-    }
-}
-
 // One part after the other, and none after a part that could not be handed over.
 fn print_parts<W: Write>(to: &mut W, first: &[u8], rest: &[u8], parties: &[u8]) -> Result<(), Fault>
     ensures written { OnOk result (Appends (W.contents to.old) (W.contents to.new) (first.now ++ rest.now ++ parties.now)) }
     ensures unwritten { IfErr result (λ fault. fault ≡ Fault.Output) }
 {
-    print(to, first)?;
-    print(to, rest)?;
-    print(to, parties)
+    standard_input::print(to, first)?;
+    standard_input::print(to, rest)?;
+    standard_input::print(to, parties)
 }
 
 // An input that could be read: its report, or its refusal.
@@ -144,17 +133,7 @@ fn run<R: Read, W: Write>(from: &mut R, to: &mut W) -> Result<(), Fault>
     }
 }
 
-// Says a failure on standard error, beside the exit status; where that fails too, there is nowhere left to say it. There is no answer, or a part of one, on standard
-// output.
-fn complain(rt: &impl Eprint, message: &str) -> ExitCode {
-    let _ = rt.eprintln(message);
-    ExitCode::FAILURE
-}
-
 fn main(rt: HostRuntime) -> ExitCode {
-    match run(&mut rt.stdin(), &mut rt.stdout()) {
-        Ok(()) => ExitCode::SUCCESS,
-        Err(Fault::Input) => complain(&rt, "hours: standard input cannot be read"),
-        Err(Fault::Output) => complain(&rt, "hours: standard output cannot be written"),
-    }
+    let ran = run(&mut rt.stdin(), &mut rt.stdout());
+    standard_input::exit_code(&rt, "hours", ran)
 }

@@ -1,11 +1,12 @@
 -- Reading standard input (01 "The statement program": "Reads one month file from standard input."): what the count of one read promises, and what the end of
 -- the reading says of the input, with the paper's refusal and place. Which bytes were read, no contract can say.
-use Rattle.std.specs.Prelude.{List, [], ◌≡◌, ℕ, ◌≤◌, ◌<◌, length}
+use Rattle.std.specs.Prelude.{List, [], ◌≡◌, ℕ, ◌≤◌, ◌<◌, length, Result, Ok, Err, ⊤}
 use Rattle.std.proofs.Math.Option.{Option, none, some}
 use Rattle.rules.specs.Limits.{longest_file}
 use Rattle.rules.specs.Refusals.{file_fault, Verdict, accepted, refused}
 use Rattle.standard_input.specs.declared.Ending.{Ending}
 use Rattle.standard_input.specs.declared.Ending.TheVariants.{Whole, TooLong, Failed}
+use Rattle.standard_input.specs.declared.Fault.{Fault}
 use Rattle.standard_input.specs.declared.Piece.{Piece}
 use Rattle.standard_input.specs.declared.Piece.TheVariants as P
 use Rattle.text.specs.Text.{refusal_text}
@@ -48,3 +49,8 @@ FullyRead ending bytes = Full ending (length bytes) longest_file
 -- THE TEXT OF THE INPUT: of every input that the reading can have had, what is printed is its report
 abbrev pub TextOf : (List ℕ → List ℕ) → Ending → List ℕ → List ℕ → Type 0
 TextOf report ending bytes printed = (input : List ℕ) → InputOf ending bytes input → printed ≡ report input
+
+-- how a program ends: with status 0, or with 1 where a stream failed it
+abbrev pub status_of : Result ⊤ Fault → ℕ
+status_of (Ok _) = 0
+status_of (Err fault) = 1

@@ -1,18 +1,23 @@
-// Standard input, as the programs use it: a month file is read piece by piece, however many reads it takes.
+// Standard input and output, as the programs use them: a month file is read piece by piece, however many reads it takes, a text is printed, and a stream that fails
+// ends the program with status 1.
 //
 // What is proved: each function is safe and ends, given that each read returns; what was read lies within the buffer, and fills it where the input is told as too
 // long; of a reader whose bytes are known, as those of a slice are, what was read is those bytes, all of them; and the line that is printed of an input that is too
 // long is 1 at 0. What no contract can say: which bytes standard input gives. tests/streams tries that on the running programs.
 #![tactic(auto)]
 
-ghost use Rattle.std.specs.Prelude.{length, take, ◌≡◌, ◌≤◌};
+ghost use Rattle.std.specs.Prelude.{length, take, ◌≡◌, ◌≤◌, OnOk, IfErr};
+ghost use Rattle.std.specs.Io.KnownBytes.{Appends};
+ghost use Rattle.std.specs.Process.{exit_status};
 ghost use Rattle.rules.specs.Limits.{longest_file};
 ghost use Rattle.standard_input.specs.Known.{PieceOf, PastOf, InputRead};
-ghost use Rattle.standard_input.specs.Reading.{PieceWithin, Full, FullyRead, ended, ended_text};
+ghost use Rattle.standard_input.specs.Reading.{PieceWithin, Full, FullyRead, ended, ended_text, status_of};
 ghost use Rattle.text.specs.Text.{LinePut, longest_refusal_line};
 
 use answer::Refusal;
-use std::io::Read;
+use std::fmt;
+use std::io::{Read, Write};
+use std::process::ExitCode;
 
 // "At most 65,536 bytes".
 const LONGEST_FILE: usize = limits::LONGEST_FILE;
@@ -34,10 +39,19 @@ pub enum Ending {
 }
 
 // Which stream failed a program: its input could not be read, or its answer not be written.
-#[derive(Clone, Copy)]
+#[derive(Clone, Copy, Debug, PartialEq, Eq)]
 pub enum Fault {
     Input,
     Output,
+}
+
+impl fmt::Display for Fault {
+    fn fmt<W: fmt::Write>(&self, f: &mut fmt::Formatter<W>) -> fmt::Result {
+        match self {
+            Fault::Input => write!(f, "standard input cannot be read"),
+            Fault::Output => write!(f, "standard output cannot be written"),
+        }
+    }
 }
 
 // So many bytes of the buffer are filled, and how that ended. A count of its own: it is within the buffer however the reading ended.
@@ -136,5 +150,30 @@ pub fn refusal_line(ending: Ending, out: &mut [u8]) -> usize
         Ending::Whole => 0,
         Ending::TooLong => text::put_refusal(Refusal::FileFault, 0, out),
         Ending::Failed => 0,
+    }
+}
+
+// Prints all of a text, however many writes it takes.
+pub fn print<W: Write>(to: &mut W, text: &[u8]) -> Result<(), Fault>
+    ensures written { OnOk result (Appends (W.contents to.old) (W.contents to.new) text.now) }
+    ensures unwritten { IfErr result (λ fault. fault ≡ Fault.Output) }
+{
+    match to.write_all(text) {
+        Ok(()) => Ok(()),
+        Err(_) => Err(Fault::Output),
+    }
+}
+
+// How a program ends: with status 0, or where a stream failed it with 1, and says so on standard error; where that fails too, there is nowhere left to say it. There is
+// then no answer, or a part of one, on standard output.
+pub fn exit_code(rt: &impl Eprint, program: &str, ran: Result<(), Fault>) -> ExitCode
+    ensures { exit_status result ≡ status_of ran }
+{
+    match ran {
+        Ok(()) => ExitCode::from(0),
+        Err(fault) => {
+            let _ = eprintln!(rt; "{program}: {fault}");
+            ExitCode::from(1)
+        }
     }
 }

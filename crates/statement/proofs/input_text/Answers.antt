@@ -1,8 +1,0 @@
--- `statement::input_text` meets its contract: what is printed is the final statement of the input, however its reading ended. Assumes nothing.
-use Rattle.rules.specs.Statement.{per_party}
-use Rattle.rules.specs.Setting.{final}
-use Rattle.statement_input.proofs.Texts.{input_printed}
-use Rattle.statement.proofs.input_text.Goals as goal
-
-pub returns : goal.returns
-returns c = let both = input_printed per_party final _ c.args.ending c.requires.fully_read c.input_text.ensures in record { within = both.0; text = both.1 }
