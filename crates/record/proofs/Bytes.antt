@@ -1,44 +1,47 @@
--- A number as bytes, read: a loop over them keeps what is left, the number of what was gathered and the bytes left.
-use mathlib.Core.List.{List}
-use mathlib.Core.Path.{◌≡◌, sym, refl, ◌∙◌, ap}
-use Prim.Native.Nat.{ℕ, ◌+◌, ◌-◌, ◌*◌, ◌^◌, ◌≤◌, ◌<◌}
-use native.Mathlib.Nat.{pow-le-pow_right, pow-suc}
-use native.Mathlib.Numerals.{add-one}
+-- A number as bytes, read: what the library reads of two, four and eight bytes is the rules' number of them, the first counting most.
+use mathlib.Core.List.{List, [], ◌∷◌}
+use mathlib.Core.Path.{◌≡◌}
+use Prim.Native.Nat.{ℕ, ◌+◌, ◌≤◌}
 use native.Mathlib.Omega.{arith}
-use lib.ListN.{length, get_or, take, drop, length-drop, drop_of_length-le}
+use lib.ListN.{length, get_or, take, drop, length-drop}
 use lib.Seq.{drop-cons, length-take-le}
+use mir.Syntax.{w16, w32, w64}
+use Rattle.std.specs.Int.{from_be_bytes}
 use Rattle.rules.specs.Record.{number_onto}
 
--- i of the bytes have been gathered
-pub record Gathering (bytes : List ℕ) (number i : ℕ) : Type 0 where
-  pub left : number_onto number (drop i bytes) ≡ number_onto 0 bytes
-  pub small : number < 256 ^ i
-
-pub gather_start : (bytes : List ℕ) → Gathering bytes 0 0
-gather_start bytes = record { left = refl; small = omega arith }
-
-pub gather_fits : {bytes : List ℕ} {number i : ℕ} → Gathering bytes number i → i < 8 → number < 256 ^ 7
-gather_fits {number} {i} h b =
-    let n : i ≤ 7 = omega arith in
-    let q : 256 ^ i ≤ 256 ^ 7 = pow-le-pow_right {n = 256} (omega arith) n in
-    omega (arith, h.small)
-
-pub gather_next : {bytes : List ℕ} {number i : ℕ} → Gathering bytes number i → i < length bytes → get_or bytes i 0 < 256
-    → Gathering bytes (number * 256 + get_or bytes i 0) (i + 1)
-unfolding number_onto
-gather_next {bytes} {number} {i} h b f =
-    rw (add-one i)
-    (record {
-      left = ap (number_onto number) (sym (drop-cons bytes i 0 b)) ∙ h.left;
-      small = omega (arith, h.small, pow-suc 256 i);
-    })
-
-pub gathered : {bytes : List ℕ} {number i : ℕ} → Gathering bytes number i → length bytes ≤ i → number ≡ number_onto 0 bytes
-unfolding number_onto
-gathered {bytes} {number} {i} h b = ap (number_onto number) (sym (drop_of_length-le bytes b)) ∙ h.left
-
 -- so many bytes from a place on, where they stand, are so many
-pub part_length : (s : List ℕ) (p width : ℕ) → p + width ≤ length s → length (take (p + width - p) (drop p s)) ≡ width
-part_length s p width h =
-    let e : p + width - p ≡ width = omega arith in
-    rw e (length-take-le width (drop p s) (omega (arith, length-drop p s)))
+pub there : (n : ℕ) (s : List ℕ) (p : ℕ) → p + n ≤ length s → length (take n (drop p s)) ≡ n
+there n s p h = length-take-le n (drop p s) (omega (arith, length-drop p s))
+
+pub one_byte : (s : List ℕ) (p : ℕ) → p + 1 ≤ length s → get_or s p 0 ≡ number_onto 0 (take 1 (drop p s))
+unfolding number_onto
+one_byte s p h = rw (drop-cons s p 0 (omega arith)) (omega arith)
+
+pub two_bytes : (l : List ℕ) → length l ≡ 2 → from_be_bytes w16 l ≡ number_onto 0 l
+unfolding number_onto
+two_bytes (a ∷ b ∷ []) e = omega arith
+two_bytes [] e = absurd (omega arith)
+two_bytes (a ∷ []) e = absurd (omega arith)
+two_bytes (a ∷ b ∷ c ∷ l) e = absurd (omega arith)
+
+pub four_bytes : (l : List ℕ) → length l ≡ 4 → from_be_bytes w32 l ≡ number_onto 0 l
+unfolding number_onto
+four_bytes (a ∷ b ∷ c ∷ d ∷ []) e = omega arith
+four_bytes [] e = absurd (omega arith)
+four_bytes (a ∷ []) e = absurd (omega arith)
+four_bytes (a ∷ b ∷ []) e = absurd (omega arith)
+four_bytes (a ∷ b ∷ c ∷ []) e = absurd (omega arith)
+four_bytes (a ∷ b ∷ c ∷ d ∷ f ∷ l) e = absurd (omega arith)
+
+pub eight_bytes : (l : List ℕ) → length l ≡ 8 → from_be_bytes w64 l ≡ number_onto 0 l
+unfolding number_onto
+eight_bytes (a ∷ b ∷ c ∷ d ∷ f ∷ g ∷ h ∷ i ∷ []) e = omega arith
+eight_bytes [] e = absurd (omega arith)
+eight_bytes (a ∷ []) e = absurd (omega arith)
+eight_bytes (a ∷ b ∷ []) e = absurd (omega arith)
+eight_bytes (a ∷ b ∷ c ∷ []) e = absurd (omega arith)
+eight_bytes (a ∷ b ∷ c ∷ d ∷ []) e = absurd (omega arith)
+eight_bytes (a ∷ b ∷ c ∷ d ∷ f ∷ []) e = absurd (omega arith)
+eight_bytes (a ∷ b ∷ c ∷ d ∷ f ∷ g ∷ []) e = absurd (omega arith)
+eight_bytes (a ∷ b ∷ c ∷ d ∷ f ∷ g ∷ h ∷ []) e = absurd (omega arith)
+eight_bytes (a ∷ b ∷ c ∷ d ∷ f ∷ g ∷ h ∷ i ∷ j ∷ l) e = absurd (omega arith)

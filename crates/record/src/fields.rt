@@ -1,41 +1,43 @@
 // The fields of a record as bytes, read (01 "The month file"): "Numbers are big-endian; net supply and price are two's complement."
-ghost use Rattle.std.specs.Prelude.{◌≡◌, ◌+◌, ◌≤◌, ◌<◌, ◌^◌, length, take, drop};
+ghost use Rattle.std.specs.Prelude.{◌≡◌, ◌+◌, ◌≤◌, length, take, drop};
 ghost use Rattle.record.specs.Fields.{complemented};
 ghost use Rattle.rules.specs.Record.{number_onto};
 
-// The number in `width` bytes from a place on, the first counting most.
-pub fn number_at(s: &[u8], at: usize, width: usize) -> u64
-    requires { (at + width ≤ length s.now) × (width ≤ 8) }
-    ensures value { result ≡ number_onto 0 (take width (drop at s.now)) }
-    ensures bound { result < 256 ^ width }
+// The bytes of a field, from a place on.
+fn bytes_at<const N: usize>(s: &[u8], at: usize) -> [u8; N]
+    requires { at + N ≤ length s.now }
+    ensures { result ≡ take N (drop at s.now) }
 {
-    let mut number: u64 = 0;
-    for byte in &s[at..at + width] {
-        number = number * 256 + *byte as u64;
-    }
-    number
+    s[at..at + N].try_into().unwrap()
 }
 
-// The same for the widths of 1, 2 and 4 bytes, in the type of that width.
+// The number that stands there, in one byte, two, four or eight.
 pub fn u8_at(s: &[u8], at: usize) -> u8
     requires { at + 1 ≤ length s.now }
     ensures { result ≡ number_onto 0 (take 1 (drop at s.now)) }
 {
-    number_at(s, at, 1) as u8
+    s[at]
 }
 
 pub fn u16_at(s: &[u8], at: usize) -> u16
     requires { at + 2 ≤ length s.now }
     ensures { result ≡ number_onto 0 (take 2 (drop at s.now)) }
 {
-    number_at(s, at, 2) as u16
+    u16::from_be_bytes(bytes_at(s, at))
 }
 
 pub fn u32_at(s: &[u8], at: usize) -> u32
     requires { at + 4 ≤ length s.now }
     ensures { result ≡ number_onto 0 (take 4 (drop at s.now)) }
 {
-    number_at(s, at, 4) as u32
+    u32::from_be_bytes(bytes_at(s, at))
+}
+
+pub fn u64_at(s: &[u8], at: usize) -> u64
+    requires { at + 8 ≤ length s.now }
+    ensures { result ≡ number_onto 0 (take 8 (drop at s.now)) }
+{
+    u64::from_be_bytes(bytes_at(s, at))
 }
 
 // Two's complement, for the width whose largest number is `top`: the upper half stands for the negative numbers.

@@ -124,10 +124,10 @@ pub fn flows_in(part: &[u8]) -> Flows
 {
     Flows {
         status: fields::u8_at(part, 3),
-        net_wh: fields::signed(fields::number_at(part, 4, 8), TOP_8),
-        production_wh: fields::number_at(part, 12, 8),
-        hourly_wh: fields::number_at(part, 20, 8),
-        flex_wh: fields::number_at(part, 28, 8),
+        net_wh: fields::signed(fields::u64_at(part, 4), TOP_8),
+        production_wh: fields::u64_at(part, 12),
+        hourly_wh: fields::u64_at(part, 20),
+        flex_wh: fields::u64_at(part, 28),
     }
 }
 
@@ -148,8 +148,8 @@ pub fn long_reading_in(part: &[u8]) -> Reading
     requires { 26 ≤ length part.now }
     ensures { reading (reading_of result) ≡ record_as long_reading_kind part.now }
 {
-    let before = fields::number_at(part, 10, 8);
-    let whole = fields::number_at(part, 18, 8);
+    let before = fields::u64_at(part, 10);
+    let whole = fields::u64_at(part, 18);
     Reading {
         party: fields::u8_at(part, 1),
         a: fields::u16_at(part, 2),
@@ -174,7 +174,7 @@ pub fn price_in(part: &[u8]) -> i64
     requires { 7 ≤ length part.now }
     ensures { result ≡ signed 4 (number_onto 0 (take 4 (drop 3 part.now))) }
 {
-    fields::signed(fields::number_at(part, 3, 4), TOP_4)
+    fields::signed(fields::u32_at(part, 3) as u64, TOP_4)
 }
 
 // A party's load share: in a 02 record after its GLN, in a 12 record after its BRP's.
@@ -182,14 +182,14 @@ pub fn share_in(part: &[u8]) -> u64
     requires { 22 ≤ length part.now }
     ensures { result ≡ number_onto 0 (take 8 (drop 14 part.now)) }
 {
-    fields::number_at(part, 14, 8)
+    fields::u64_at(part, 14)
 }
 
 pub fn brp_share_in(part: &[u8]) -> u64
     requires { 35 ≤ length part.now }
     ensures { result ≡ number_onto 0 (take 8 (drop 27 part.now)) }
 {
-    fields::number_at(part, 27, 8)
+    fields::u64_at(part, 27)
 }
 
 // A party's kind byte, by whether it names a BRP.

@@ -1,5 +1,5 @@
 // The rule of a record's fields (01 "Numbers that bound it"): what is tested of each kind.
-ghost use Rattle.std.specs.Prelude.{◌≡◌, eqb, ltb, nat_abs, ◌&&◌};
+ghost use Rattle.std.specs.Prelude.{◌≡◌, ltb, ◌&&◌};
 ghost use Rattle.answer.specs.Said.{named, said};
 ghost use Rattle.record.specs.Record.{heading_of, flows_of, glns, no_glns};
 ghost use Rattle.record_rule.specs.Judged.{fault_of};

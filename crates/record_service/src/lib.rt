@@ -1,8 +1,7 @@
 // The record writer with the kind as a number and the fields as a list of numbers (01 "The month file", "The record writer"), for tests: `record_cases` calls it.
 #![tactic(auto)]
 
-ghost use Rattle.std.specs.Prelude.{◌≡◌, leb, pos, nat_abs, ◌≤◌, ◌<◌, length, true};
-ghost use Rattle.std.specs.Int.Signed.{le_z};
+ghost use Rattle.std.specs.Prelude.{◌≡◌, leb, nat_abs, ◌≤◌, ◌<◌, length, true};
 ghost use Rattle.record_service.specs.Held.{field_count, signed_place, signs_from, fields_held, list_right, held, held_heading, held_flows, held_weights, held_reading, held_record};
 ghost use Rattle.record_service.specs.Plain.{Promised};
 ghost use Rattle.rules.specs.Record.{known};

@@ -14,10 +14,10 @@ returns c =
       to_z-of_z f,
       c.u8_at.ensures,
       c.signed.ensures,
-      c.number_at.ensures.value,
-      c.number_at-2.ensures.value,
-      c.number_at-3.ensures.value,
-      c.number_at-4.ensures.value,
+      c.u64_at.ensures,
+      c.u64_at-2.ensures,
+      c.u64_at-3.ensures,
+      c.u64_at-4.ensures,
       signed_8,
     )
     (flows_is _ c.requires)

@@ -5,8 +5,8 @@ use Rattle.record.proofs.long_reading_in.Goals as goal
 pub returns : goal.returns
 returns c =
     rw (
-      c.number_at-before.ensures.value,
-      c.number_at-whole.ensures.value,
+      c.u64_at-before.ensures,
+      c.u64_at-whole.ensures,
       c.u8_at.ensures,
       c.u16_at.ensures,
       c.u16_at-2.ensures,

@@ -7,4 +7,4 @@ use borrow.Author.Rules.{rules}
 use Rattle.record.proofs.price_in.Goals as goal
 
 pub returns : goal.returns
-returns c = let f : SFits w64 c.signed.result = search rules in rw (to_z-of_z f, c.signed.ensures, c.number_at.ensures.value) (signed_4 _)
+returns c = let f : SFits w64 c.signed.result = search rules in rw (to_z-of_z f, c.signed.ensures, c.u32_at.ensures) (signed_4 _)
