@@ -23,8 +23,8 @@ use Rattle.rules.specs.Limits.{most_months, greatest_energy}
 use Rattle.rules.specs.Month.{follows_whole}
 use Rattle.rules.specs.Plan.{LongReading, month_count, month_start, curve_of_month, part_from, part_to, part_hours, part_weight, planned_before, planned_whole, reading_hours}
 use Rattle.rules.specs.Plan.{handed_checks, plan_checks}
-use Rattle.rules.specs.Refusals.{nothing_to_follow, Verdict, unless, and_then, first}
-use Rattle.rules.specs.Words.{sum, at, figures}
+use Rattle.rules.specs.Refusals.{nothing_to_follow, unless, and_then, first}
+use Rattle.rules.specs.Words.{sum, at}
 use Rattle.rules.proofs.Plan.{Weighed, Plannable, plannable, whole_is, within_curves, whole_fits, part_weighs}
 use Rattle.rules.proofs.Refusals.{accepted_exactly, first_append}
 use Rattle.rules.proofs.Sums.{sum_cong, sum_rises}

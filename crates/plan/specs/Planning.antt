@@ -1,10 +1,9 @@
 -- What makes the records takes and gives: the reading without its parties and E, and its records as the code has them.
-use Rattle.std.specs.Prelude.{cond, List, [], ◌≡◌, ℕ, ltb, length, replicate}
+use Rattle.std.specs.Prelude.{cond, List, [], ◌≡◌, ℕ, ltb, length}
 use Rattle.plan_checks.specs.Handed.{handed}
 use Rattle.record.specs.declared.Over.TheVariants.{ThisMonth, ManyMonths}
 use Rattle.record.specs.declared.Reading.{Reading}
 use Rattle.rules.proofs.Plan.{Weighed}
-use Rattle.rules.specs.Limits.{most_months}
 use Rattle.rules.specs.Plan.{LongReading, month_count, part_from, part_to, planned_before, planned_whole}
 use Rattle.rules.specs.Words.{at}
 

@@ -22,13 +22,13 @@ use Rattle.record.specs.Record.{over_of}
 use Rattle.record.specs.declared.Reading.{Reading}
 use Rattle.rules.specs.Limits.{most_months}
 use Rattle.rules.specs.Month.{weight_before, whole_weight}
-use Rattle.rules.specs.Plan.{LongReading, month_count, part_from, part_to, planned_before, plan_checks, lent_plan_checks}
+use Rattle.rules.specs.Plan.{LongReading, month_count, plan_checks, lent_plan_checks}
 use Rattle.rules.specs.Refusals.{wrong_length, Verdict, first, afterwards}
 use Rattle.rules.specs.Words.{figures}
 use Rattle.rules.proofs.Loops.{Filling, fill_start, fill_next, fill_end, figures_cong}
 use Rattle.rules.proofs.Whole.{both_pass}
 use Rattle.plan_service.specs.Planned.{from_in, to_in, before_in, whole_in, PlacesFor, NumbersOf}
-use Rattle.plan_service.specs.Promised.{plan_verdict, whole_of_each, Promised}
+use Rattle.plan_service.specs.Promised.{plan_verdict, Promised}
 
 -- THE LOOP that puts the records' numbers: after k months each list has those of the first k
 pub record Put (records : List Reading) (n : ℕ) (from to before whole : List ℕ) (k : ℕ) : Type 0 where
