@@ -12,7 +12,7 @@ use Rattle.std.specs.Prelude.{Result, Ok, Err}
 use Rattle.answer.specs.Said.{named}
 use Rattle.answer.specs.declared.Refusal.{Refusal}
 use Rattle.file_sections.specs.Walk.{Accepted}
-use Rattle.file_fields.specs.Fields.{FixedAsked, RefixedAsked, FixedIs, RefixedIs}
+use Rattle.file_fields.specs.Fields.{FixedIs, RefixedIs}
 use Rattle.file_sections.specs.declared.Sections.{Sections}
 use Rattle.file_sections.proofs.AcceptedFile.{month_whole, hours_are, refixed_are}
 use Rattle.file_fields.proofs.FieldsRead.{fixed_read, refixed_read}
@@ -43,12 +43,6 @@ module _ (file : List ℕ) (s : Sections) (ok : Accepted file s) where
 
 -- an hour that is asked of either series, by the reader of that series
 module _ {file : List ℕ} {s : Sections} {refixed : Bool} {t : ℕ} (a : HourAsked file s refixed t) where
-  pub refixed_asked : refixed ≡ true → RefixedAsked file s t
-  refixed_asked e = record { accepted = a.accepted; hour = rw e at a.hour }
-
-  pub fixed_asked : refixed ≡ false → FixedAsked file s t
-  fixed_asked e = record { accepted = a.accepted; hour = rw e at a.hour }
-
   pub refixed_is : refixed ≡ true → {f : CFlows.Flows} → RefixedIs file t f → flows_of f ≡ flows_at (series_of (month_of file) refixed) t
   unfolding series_of
   refixed_is e is = rw e (refixed_read file s a.accepted is)
@@ -73,7 +67,7 @@ one_or_none : (b : Bool) → cond b 1 0 ≤ 1
 one_or_none true = omega arith
 one_or_none false = omega arith
 
-pub one_at_most : (status : ℕ) → estimated_one status ≤ 1
+one_at_most : (status : ℕ) → estimated_one status ≤ 1
 one_at_most status = one_or_none (eqb status Limits.estimated)
 
 module _ {series : List Flows} {out : List ℕ} {n t : ℕ} (l : Judging series out n t) (b : t < length series) where

@@ -11,4 +11,3 @@ at_most a b = mul-le-mul a b
 
 pub overflow_mul-result : goal.overflow_mul-result
 overflow_mul-result c = record { fits = omega (arith, at_most {parties = c.args.parties} c.requires (search rules)) }
-
