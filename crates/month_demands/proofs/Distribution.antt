@@ -8,8 +8,9 @@ use lib.Dec.{le→leb}
 use lib.IntN.{ℤ, pos, negsuc, nat_abs}
 use lib.ListN.{length, get_or}
 use lib.Signed.{◌≤ℤ◌}
+use Rattle.std.specs.Prelude.{Result, ⊤}
 use Rattle.answer.specs.Said.{said}
-use Rattle.answer.specs.declared.Answer.{Answer}
+use Rattle.answer.specs.declared.Refused.{Refused}
 use Rattle.distribute.proofs.Demand.{demand_3_of}
 use Rattle.month_demands.specs.Distribution.{DistributionAsked, DistributionMeets, written, written_over, RunMeets}
 use Rattle.month_run.specs.InRun.{distributed_in_run}
@@ -125,7 +126,7 @@ read_accepted setting (given m) e = (refl, e)
 read_accepted setting (refusal r place) e = absurd (refused_not_accepted e)
 
 -- THE CALL ON A RUN OF HOURS: of any answer r, and any contents of the lent outputs, that meet its promise
-module _ {setting : Setting} {file : List ℕ} {start hours : ℕ} {r : Answer} {d₀ : List ℤ} {p₀ : List ℕ} {x₀ l₀ d : List ℤ} {p : List ℕ} {x l : List ℤ}
+module _ {setting : Setting} {file : List ℕ} {start hours : ℕ} {r : Result ⊤ Refused} {d₀ : List ℤ} {p₀ : List ℕ} {x₀ l₀ d : List ℤ} {p : List ℕ} {x l : List ℤ}
     (is : Promised setting file start hours r d₀ p₀ x₀ l₀ d p x l) (ok : said r ≡ accepted) where
   abbrev m : MonthFile
   m = month_of file

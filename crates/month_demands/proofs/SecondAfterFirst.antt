@@ -6,14 +6,15 @@ use Prim.Native.Nat.{ℕ, ◌+◌, ◌*◌, ◌<◌}
 use lib.IntN.{ℤ}
 use lib.ListN.{length}
 use Rattle.amounts_service.specs.Promised as Second
+use Rattle.std.specs.Prelude.{Result, ⊤}
 use Rattle.answer.specs.Said.{said}
-use Rattle.answer.specs.declared.Answer.{Answer}
+use Rattle.answer.specs.declared.Refused.{Refused}
 use Rattle.month_demands.specs.Demands.{Outputs, Kept}
 use Rattle.month_demands.proofs.Distribution.{month, run_in_month}
 use Rattle.month_demands.proofs.Theorems.{the_month_meets}
 use Rattle.month_run.specs.Run as First
 use Rattle.month_service.specs.Told.{verdict}
-use Rattle.month_service.specs.declared.Settlement.{Settlement}
+use Rattle.month_service.specs.declared.Summary.{Summary}
 use Rattle.setting.specs.Asked.{asked}
 use Rattle.setting.specs.declared.Setting.{Setting}
 use Rattle.rules.specs.Month.{month_of, month_amount}
@@ -29,7 +30,7 @@ use Rattle.rules.proofs.Integers.{sum_ℤ_cong}
 use Rattle.rules.proofs.Whole.{Whole, what_is_read_is_whole}
 
 -- THE FIRST CALL, accepted: any answer and any contents that meet its promise
-module _ {setting : Setting} {file : List ℕ} {start hours : ℕ} {r : Answer} {d₀ : List ℤ} {p₀ : List ℕ} {x₀ l₀ d : List ℤ} {p : List ℕ} {x l : List ℤ}
+module _ {setting : Setting} {file : List ℕ} {start hours : ℕ} {r : Result ⊤ Refused} {d₀ : List ℤ} {p₀ : List ℕ} {x₀ l₀ d : List ℤ} {p : List ℕ} {x l : List ℤ}
     (is : First.Promised setting file start hours r d₀ p₀ x₀ l₀ d p x l) (ok : said r ≡ accepted) where
   abbrev m : MonthFile
   m = month_of file
@@ -42,7 +43,7 @@ module _ {setting : Setting} {file : List ℕ} {start hours : ℕ} {r : Answer} 
   unfolding afterwards run_differences
   differences_are = is.differences ∙ ap (λ (v : Verdict). afterwards v (figures (hours * P m) (difference_in_run m start)) x₀) ok
 
-  module _ (prices : List ℤ) {a : Answer} {lent held : List ℤ} (second : Second.Promised x (P m) prices lent a held) (room : length lent ≡ hours * P m) where
+  module _ (prices : List ℤ) {a : Result ⊤ Refused} {lent held : List ℤ} (second : Second.Promised x (P m) prices lent a held) (room : length lent ≡ hours * P m) where
     answers : first (amounts_checks (run_differences m start hours) (P m) prices (hours * P m)) ≡ accepted → said a ≡ accepted
     answers passes =
         second.answer ∙ ap (λ (l : List ℤ). first (amounts_checks l (P m) prices (length lent))) differences_are
@@ -65,11 +66,11 @@ module _ {setting : Setting} {file : List ℕ} {start hours : ℕ} {r : Answer} 
         ∙ second_after_the_first m start hours
 
 -- OF A WHOLE MONTH: both calls over all its hours give, added up, what the call on the whole month writes as each party's amount
-module _ {setting : Setting} {file : List ℕ} {hours : ℕ} {r : Answer} {d₀ : List ℤ} {p₀ : List ℕ} {x₀ l₀ d : List ℤ} {p : List ℕ} {x l : List ℤ}
+module _ {setting : Setting} {file : List ℕ} {hours : ℕ} {r : Result ⊤ Refused} {d₀ : List ℤ} {p₀ : List ℕ} {x₀ l₀ d : List ℤ} {p : List ℕ} {x l : List ℤ}
     (is : First.Promised setting file 0 hours r d₀ p₀ x₀ l₀ d p x l) (ok : said r ≡ accepted) (all : hours ≡ H (month_of file))
-    (prices : List ℤ) {a : Answer} {lent held : List ℤ} (second : Second.Promised x (P (month_of file)) prices lent a held) (room : length lent ≡ hours * P (month_of file))
+    (prices : List ℤ) {a : Result ⊤ Refused} {lent held : List ℤ} (second : Second.Promised x (P (month_of file)) prices lent a held) (room : length lent ≡ hours * P (month_of file))
     (the-file's : prices ≡ run_prices (month_of file) 0 hours)
-    {s : Settlement} (before after : Outputs) (call : Kept setting file s before after) (settled : verdict s ≡ accepted) where
+    {s : Result Summary Refused} (before after : Outputs) (call : Kept setting file s before after) (settled : verdict s ≡ accepted) where
   pub amounts_of_the_call : (i : ℕ) → i < P (month_of file) → at_ℤ after.amounts i ≡ sum_ℤ (H (month_of file)) (λ t. at_ℤ held (t * P (month_of file) + i))
   unfolding month_amount
   amounts_of_the_call i b =

@@ -8,10 +8,10 @@ use native.Mathlib.Nat.{zero-add}
 use native.Mathlib.Omega.{arith}
 use lib.IntN.{ℤ, pos}
 use lib.ListN.{length}
+use Rattle.std.specs.Prelude.{Result, Ok, Err}
+use Rattle.answer.specs.declared.Refused.{Refused}
 use Rattle.month_demands.specs.Demands.{Outputs, Kept, places_right, FileOf, NoRefusalApplies, RefusalApplies, of_reading, of_the_month, of_the_lent, MonthMeets}
 use Rattle.month_service.specs.Told.{summary_of, verdict, told, settle_verdict}
-use Rattle.month_service.specs.declared.Settlement.{Settlement}
-use Rattle.month_service.specs.declared.Settlement.TheVariants.{Settled, Refused}
 use Rattle.month_service.specs.declared.Summary.{Summary}
 use Rattle.file_sections.proofs.AcceptedFile.{month_of_lem}
 use Rattle.setting.specs.Asked.{asked}
@@ -45,9 +45,9 @@ use Rattle.rules.proofs.WellFormed.{read_exactly}
 use Rattle.rules.proofs.Whole.{Whole, what_is_read_is_whole, what_is_read_is_priced}
 
 -- The verdict can be read back from what an answer tells.
-as_told : (r : Settlement) → verdict_told (told r) ≡ verdict r
-as_told (Settled s) = refl
-as_told (Refused r place) = refl
+as_told : (r : Result Summary Refused) → verdict_told (told r) ≡ verdict r
+as_told (Ok s) = refl
+as_told (Err r) = refl
 
 -- THE EXACT CONDITIONS of the call's verdict: of what the file is read as, and of the lent outputs.
 module _ (setting : Setting) (file : List ℕ) (lent : Outputs) where
@@ -201,7 +201,7 @@ since_first m i =
     sum_ℤ_cong (H m) (λ t b. ap (λ (k : ℕ). distributed_figure (P m) (share_of m) (applied_wh m) k i) (sym (zero-add t)))
 
 -- THE CALL ON A WHOLE FILE: of any answer r, and any contents of the lent outputs, that meet its promise.
-module _ {setting : Setting} {file : List ℕ} {r : Settlement} (lent held : Outputs) (is : Kept setting file r lent held) where
+module _ {setting : Setting} {file : List ℕ} {r : Result Summary Refused} (lent held : Outputs) (is : Kept setting file r lent held) where
   its_verdict : verdict r ≡ verdict_for setting file lent (read_month needed file)
   its_verdict =
       sym (as_told r) ∙ ap (λ (a : Answer Summary). verdict_told a) is.answer ∙ verdict_back _ (summary_of (month_of file))

@@ -1,49 +1,53 @@
 -- "that no second result fits is itself proved" (01, "What a proof here has to say"): what the crate's public functions promise leaves one answer, and one
 -- content of each lent output.
 use mathlib.Core.List.{List}
-use mathlib.Core.Path.{◌≡◌, sym, ◌∙◌, ap, ap₂}
+use mathlib.Core.Path.{◌≡◌, refl, sym, ◌∙◌, ap, ap₂}
 use Prim.Native.Nat.{ℕ}
 use native.Mathlib.Omega.{arith}
-use lib.IntN.{ℤ, pos}
+use lib.IntN.{pos}
+use Rattle.std.specs.Prelude.{Result, Ok, Err}
 use Rattle.answer.specs.Said.{named, said}
-use Rattle.answer.proofs.Said.{named_once, said_once}
+use Rattle.answer.specs.declared.Refusal.{Refusal}
+use Rattle.answer.specs.declared.Refused.{Refused}
+use Rattle.answer.proofs.Said.{named_once}
 use Rattle.apportion.proofs.Arrays.{filled_once}
 use Rattle.month_demands.specs.Demands.{Outputs, Kept}
 use Rattle.month_sums.specs.Outcomes.{OutcomeIs}
 use Rattle.month_service.specs.Told.{verdict, told}
 use Rattle.month_sums.specs.Summing.{SumsAre}
 use Rattle.month_sums.specs.declared.Outcome.{Outcome}
-use Rattle.month_service.specs.declared.Settlement.{Settlement}
-use Rattle.month_service.specs.declared.Settlement.TheVariants.{Settled, Refused}
+use Rattle.month_service.specs.declared.Summary.{Summary}
 use Rattle.hour_settled.specs.declared.Sums.{Sums}
 use Rattle.setting.specs.declared.Setting.{Setting}
 use Rattle.rules.specs.Month.{month_of, month_distributed, month_periodised, month_loss, month_difference, month_amount}
 use Rattle.rules.specs.MonthFile.{MonthFile, P}
-use Rattle.rules.specs.Refusals.{accepted, afterwards}
+use Rattle.rules.specs.Refusals.{afterwards}
 use Rattle.rules.specs.Words.{figures}
+use Rattle.rules.proofs.Refusals.{refused_not_accepted}
 
--- an answer can be read back from what it tells
-pub told_once : (r s : Settlement) → told r ≡ told s → r ≡ s
-told_once (Settled x) (Settled y) e = let same : x ≡ y = cc in ap Settled same
-told_once (Settled x) (Refused s q) e = let z : ◌≡◌ {A = ℕ} 0 1 = cc in absurd (omega arith)
-told_once (Refused r p) (Settled y) e = let z : ◌≡◌ {A = ℕ} 0 1 = cc in absurd (omega arith)
-told_once (Refused r p) (Refused s q) e =
-    let refusals : named r ≡ named s = cc in
-    let places : p ≡ q = cc in
-    ap₂ Refused (named_once r s refusals) places
+-- a refusal can be read back from its name and its place
+refused_once : {x y : Refused} → named x.0 ≡ named y.0 → x.1 ≡ y.1 → x ≡ y
+refused_once {x} {y} names places = ap₂ (λ (refusal : Refusal) (place : ℕ). (refusal, place)) (named_once x.0 y.0 names) places
+
+-- and so can an answer from what it tells
+pub told_once : (r s : Result Summary Refused) → told r ≡ told s → r ≡ s
+told_once (Ok x) (Ok y) e = let same : x ≡ y = cc in ap Ok same
+told_once (Ok x) (Err y) e = let z : ◌≡◌ {A = ℕ} 0 1 = cc in absurd (omega arith)
+told_once (Err x) (Ok y) e = let z : ◌≡◌ {A = ℕ} 0 1 = cc in absurd (omega arith)
+told_once (Err x) (Err y) e = ap Err (refused_once (cc) (cc))
 
 -- what a lent output holds is settled by the answer
 one_content :
-    {A : Type 0} {r s : Settlement} (new old : List A) {held held' : List A}
+    {A : Type 0} {r s : Result Summary Refused} (new old : List A) {held held' : List A}
     → r ≡ s
     → held ≡ afterwards (verdict r) new old
     → held' ≡ afterwards (verdict s) new old
     → held ≡ held'
-one_content new old same p q = p ∙ ap (λ (u : Settlement). afterwards (verdict u) new old) same ∙ sym q
+one_content new old same p q = p ∙ ap (λ (u : Result Summary Refused). afterwards (verdict u) new old) same ∙ sym q
 
 -- `settle`
 pub settle_unique :
-    {setting : Setting} {file : List ℕ} {r r' : Settlement} (lent held held' : Outputs)
+    {setting : Setting} {file : List ℕ} {r r' : Result Summary Refused} (lent held held' : Outputs)
     → Kept setting file r lent held
     → Kept setting file r' lent held'
     → (r ≡ r') × (held ≡ held')
@@ -96,19 +100,16 @@ sums_once m x y p q =
     loss : x.loss_wh ≡ y.loss_wh
     loss = p.loss ∙ sym q.loss
 
--- `settle_read`: one answer; and where it accepts, one count of estimated hours and one array of each sum. (Refused, it promises nothing of the count and sums.)
-module _ {setting : Setting} {m : MonthFile} {r s : Outcome} (p : OutcomeIs setting m r) (q : OutcomeIs setting m s) where
-  pub settle_read_answer_unique : r.answer ≡ s.answer
-  settle_read_answer_unique = said_once r.answer s.answer (p.verdict ∙ sym q.verdict)
-
-  pub settle_read_unique : said r.answer ≡ accepted → r ≡ s
-  settle_read_unique ok = λ i. record { answer = settle_read_answer_unique i; estimated = estimated i; sums = sums i }
+-- `settle_read`
+module _ {setting : Setting} {m : MonthFile} where
+  pub settle_read_unique : (r s : Result Outcome Refused) → OutcomeIs setting m r → OutcomeIs setting m s → r ≡ s
+  settle_read_unique r s p q = go r s p q (p.verdict ∙ sym q.verdict)
     where
-      ok' : said s.answer ≡ accepted
-      ok' = q.verdict ∙ sym p.verdict ∙ ok
-
-      estimated : r.estimated ≡ s.estimated
-      estimated = p.estimated ok ∙ sym (q.estimated ok')
-
-      sums : r.sums ≡ s.sums
-      sums = sums_once m r.sums s.sums (p.sums ok) (q.sums ok')
+      go : (r s : Result Outcome Refused) → OutcomeIs setting m r → OutcomeIs setting m s → said r ≡ said s → r ≡ s
+      go (Ok x) (Ok y) p q e =
+          let estimated : x.estimated ≡ y.estimated = p.estimated x refl ∙ sym (q.estimated y refl) in
+          let sums : x.sums ≡ y.sums = sums_once m x.sums y.sums (p.sums x refl) (q.sums y refl) in
+          ap Ok (λ i. record { estimated = estimated i; sums = sums i })
+      go (Ok x) (Err y) p q e = absurd (refused_not_accepted (sym e))
+      go (Err x) (Ok y) p q e = absurd (refused_not_accepted e)
+      go (Err x) (Err y) p q e = ap Err (refused_once (cc) (cc))
