@@ -6,7 +6,7 @@ use Prim.Native.Nat.{ℕ}
 use lib.Dec.{eqb}
 use lib.IntN.{ℤ}
 use Rattle.std.specs.Prelude.{Result, Ok, Err}
-use Rattle.answer.specs.Said.{said, verdict_of}
+use Rattle.answer.specs.Said.{said}
 use Rattle.answer.specs.declared.Refused.{Refused}
 use Rattle.report_text.specs.Lines.{Known, Distanced}
 use Rattle.report_text.specs.Reporting.{Answered, Promised}

@@ -1,5 +1,5 @@
 -- `month_run::hours_accepted` meets its contract: refused before the hours, or what is made is what they are walked with. Assumes nothing.
-use mathlib.Core.Path.{◌≡◌, refl, sym, ◌∙◌, ap}
+use mathlib.Core.Path.{refl, sym, ◌∙◌, ap}
 use Rattle.answer.specs.Said.{said}
 use Rattle.answer.proofs.Checks.{handed}
 use Rattle.month_prepare.proofs.Preparing.{fixed_enough, refixed_enough, curve_enough, beginnings_enough, as_lent}
