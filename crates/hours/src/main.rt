@@ -12,7 +12,7 @@ ghost use Rattle.hours.specs.Printed.{Within, printed};
 ghost use Rattle.report_text.specs.Lines.{Roomy, first_room, rest_room, parties_room};
 ghost use Rattle.rules.specs.HoursReport.{hours_report};
 ghost use Rattle.rules.specs.Setting.{final};
-ghost use Rattle.standard_input.specs.Known.{Writes};
+ghost use Rattle.standard_input.specs.Known.{Answered, Writes};
 ghost use Rattle.standard_input.specs.Reading.{FullyRead, TextOf};
 
 use report_text::Lines;
@@ -122,6 +122,7 @@ fn print_input<W: Write>(to: &mut W, ending: Ending, file: &[u8]) -> Result<(), 
 // THE PROGRAM, from a reader and to a writer: of an input that is known, what is written is its report, and nothing else; and of one that could not be read nothing.
 fn run<R: Read, W: Write>(from: &mut R, to: &mut W) -> Result<(), Fault>
     ensures reported { OnOk result (IfSome (R.remaining from.old) (λ input. Appends (W.contents to.old) (W.contents to.new) (hours_report final input))) }
+    ensures answered { OnOk result (Answered (hours_report final) (W.contents to.old) (W.contents to.new)) }
     ensures unread { IsErrOf result Fault.Input → Keeps (W.contents to.old) (W.contents to.new) }
 {
     let mut buffer = standard_input::month_buffer();

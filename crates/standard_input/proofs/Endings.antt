@@ -10,7 +10,7 @@ use Rattle.std.specs.Io.KnownBytes.{Appends}
 use Rattle.rules.specs.Limits.{longest_file}
 use Rattle.rules.specs.Refusals.{file_fault}
 use Rattle.rules.specs.Statement.{refusal_line}
-use Rattle.standard_input.specs.Known.{InputRead, Writes}
+use Rattle.standard_input.specs.Known.{InputRead, Writes, Answered}
 use Rattle.standard_input.specs.Reading.{FullyRead, ended, ended_text, TextOf}
 use Rattle.standard_input.specs.declared.Ending.{Ending}
 use Rattle.standard_input.specs.declared.Ending.TheVariants.{Whole, TooLong, Failed}
@@ -48,3 +48,19 @@ known_written report Whole (Some input) old new was_read read same writes = writ
 known_written report TooLong None old new was_read read same writes = tt
 known_written report TooLong (Some input) old new was_read read same writes = writes input (rw same read)
 known_written report Failed known old new was_read read same writes = absurd (was_read refl)
+
+-- a text that is the report of every input that the reading can have had, printed, is that report written
+pub text_written :
+    (report : List ℕ → List ℕ) {ending : Ending} {bytes text : List ℕ} {old new : Option (List ℕ)}
+    → TextOf report ending bytes text
+    → Appends old new text
+    → Writes report ending bytes old new
+text_written report is printed input possible = rw (is input possible) at printed
+
+-- and so the program has answered whatever the input was
+pub answered_by :
+    (report : List ℕ → List ℕ) {ending : Ending} {bytes : List ℕ} {old new : Option (List ℕ)}
+    → FullyRead ending bytes
+    → Writes report ending bytes old new
+    → Answered report old new
+answered_by report read written = record { ending = _; bytes = _; read = read; written = written }

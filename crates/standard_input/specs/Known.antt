@@ -2,7 +2,7 @@
 -- known (`None`), and nothing is said.
 use Rattle.std.specs.Prelude.{List, ℕ, ◌<◌, length, take, IfSome, Option}
 use Rattle.std.specs.Io.KnownBytes.{Appends, Consumes, IsAtEnd}
-use Rattle.standard_input.specs.Reading.{InputOf}
+use Rattle.standard_input.specs.Reading.{InputOf, FullyRead}
 use Rattle.standard_input.specs.declared.Ending.{Ending}
 use Rattle.standard_input.specs.declared.Ending.TheVariants.{Whole, TooLong, Failed}
 use Rattle.standard_input.specs.declared.Piece.{Piece}
@@ -29,3 +29,10 @@ InputRead Failed known bytes = Unit
 -- WHAT A PROGRAM WRITES: to a writer whose bytes are known it adds the report of every input that the reading can have had, and nothing else
 abbrev pub Writes : (List ℕ → List ℕ) → Ending → List ℕ → Option (List ℕ) → Option (List ℕ) → Type 0
 Writes report ending bytes old new = (input : List ℕ) → InputOf ending bytes input → Appends old new (report input)
+
+-- and of whatever the input was: bytes that were read of it, how the reading ended, and the report of that
+pub record Answered (report : List ℕ → List ℕ) (old new : Option (List ℕ)) : Type 0 where
+  pub ending : Ending
+  pub bytes : List ℕ
+  pub read : FullyRead ending bytes
+  pub written : Writes report ending bytes old new

@@ -10,6 +10,7 @@ ghost use Rattle.std.specs.Prelude.{OnOk, IfSome, IsErrOf};
 ghost use Rattle.std.specs.Io.KnownBytes.{Appends, Keeps};
 ghost use Rattle.rules.specs.Setting.{final};
 ghost use Rattle.rules.specs.Statement.{statement};
+ghost use Rattle.standard_input.specs.Known.{Answered};
 
 use setting::Setting;
 use standard_input::Fault;
@@ -20,6 +21,7 @@ use std::process::ExitCode;
 // THE PROGRAM, from a reader and to a writer: of an input that is known, what is written is its statement, and nothing else; and of one that could not be read nothing.
 fn run<R: Read, W: Write>(from: &mut R, to: &mut W) -> Result<(), Fault>
     ensures reported { OnOk result (IfSome (R.remaining from.old) (λ input. Appends (W.contents to.old) (W.contents to.new) (statement final input))) }
+    ensures answered { OnOk result (Answered (statement final) (W.contents to.old) (W.contents to.new)) }
     ensures unread { IsErrOf result Fault.Input → Keeps (W.contents to.old) (W.contents to.new) }
 {
     statement_input::run(from, to, Setting::Final, Per::Party)

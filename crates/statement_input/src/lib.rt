@@ -6,7 +6,7 @@ ghost use Rattle.std.specs.Prelude.{length, ◌≡◌, ◌≤◌, OnOk, IfErr, I
 ghost use Rattle.std.specs.Io.KnownBytes.{Appends, Keeps};
 ghost use Rattle.rules.specs.Statement.{statement_per};
 ghost use Rattle.setting.specs.Asked.{asked};
-ghost use Rattle.standard_input.specs.Known.{Writes};
+ghost use Rattle.standard_input.specs.Known.{Answered, Writes};
 ghost use Rattle.standard_input.specs.Reading.{FullyRead};
 ghost use Rattle.statement_input.specs.Inputs.{Printed, Promised};
 ghost use Rattle.statement_text.specs.Stating.{per_of, statement_room};
@@ -69,7 +69,7 @@ fn print_input<W: Write>(
 }
 
 // THE STATEMENT PROGRAM, THE PREVIEW PROGRAM AND THE BRP PROGRAM, from a reader and to a writer: of an input that is known, what is written is its statement, and nothing
-// else; and of one that could not be read nothing.
+// else; of any other, the statement of bytes that were read; and of one that could not be read nothing.
 pub fn run<R: Read, W: Write>(
     from: &mut R,
     to: &mut W,
@@ -77,6 +77,7 @@ pub fn run<R: Read, W: Write>(
     per: Per,
 ) -> Result<(), Fault>
     ensures reported { OnOk result (IfSome (R.remaining from.old) (λ input. Appends (W.contents to.old) (W.contents to.new) (statement_per (per_of per) (asked setting) input))) }
+    ensures answered { OnOk result (Answered (statement_per (per_of per) (asked setting)) (W.contents to.old) (W.contents to.new)) }
     ensures unread { IsErrOf result Fault.Input → Keeps (W.contents to.old) (W.contents to.new) }
 {
     let mut buffer = standard_input::month_buffer();

@@ -3,12 +3,14 @@ use Rattle.std.proofs.Common.{rules}
 use Rattle.std.proofs.lemmas.Result.{on_ok_weaker}
 use Rattle.rules.specs.Setting.{final}
 use Rattle.rules.specs.HoursReport.{hours_report}
-use Rattle.standard_input.proofs.Endings.{known_written}
+use Rattle.standard_input.proofs.Endings.{known_written, answered_by}
 use Rattle.hours.proofs.run.Goals as goal
 
 pub returns-in_default : goal.returns-in_default
 returns-in_default g c = record {
   reported =
       on_ok_weaker _ (known_written (hours_report final) _ _ _ _ c.in_default.not-Failed c.read_month-input.ensures.known c.bytes_read.ensures.bytes) c.print_input.ensures.written;
+  answered =
+      on_ok_weaker _ (answered_by (hours_report final) c.bytes_read.ensures.full) c.print_input.ensures.written;
   unread = λ e. search rules;
 }
