@@ -6,8 +6,8 @@ use Prim.Native.Nat.{ℕ, suc, ◌+◌, ◌≤◌, ◌<◌, zero-le}
 use native.Mathlib.Numerals.{add-one}
 use native.Mathlib.Omega.{arith}
 use borrow.Author.Tests.{le-leb, lt-leb}
-use lib.Dec.{eqb, leb, leb-suc-suc}
-use lib.IntN.{ℤ, pos, negsuc, nat_abs}
+use lib.Dec.{eqb, leb}
+use lib.IntN.{ℤ, pos, nat_abs}
 use lib.ListN.{length, get_or, drop, drop_of_length-le}
 use lib.Seq.{drop-cons}
 use lib.Signed.{mag, le_z, nat_abs-le}
@@ -17,19 +17,7 @@ use mir.Val.{SFits, to_z, of_z}
 use Rattle.record_service.specs.Held.{signs_from, held_in}
 use Rattle.record_bytes.proofs.Complement.{above, below}
 
--- an end count within four bytes
-end_test : (z : ℤ) → le_z (negsuc 4294967294) z && le_z z (pos 4294967295) ≡ leb (nat_abs z) 4294967295
-end_test (pos n) = refl
-end_test (negsuc n) = both_ends (leb n 4294967294) ∙ sym (leb-suc-suc n 4294967294)
-  where
-    both_ends : (t : Bool) → t && true ≡ t
-    both_ends true = refl
-    both_ends false = refl
-
-pub end_bits : (z : ℤ) → SFits w64 z → le_z (negsuc 4294967294) (to_z w64 (of_z w64 z)) && le_z (to_z w64 (of_z w64 z)) (pos 4294967295) ≡ leb (nat_abs z) 4294967295
-end_bits z f = rw (to_z-of_z f) (end_test z)
-
--- and any number of 64 bits within eight
+-- any number of 64 bits has room in eight bytes
 pub eight_bytes : (z : ℤ) → SFits w64 z → true ≡ leb (nat_abs z) 18446744073709551615
 eight_bytes z f = sym (le-leb (nat_abs z) 18446744073709551615 (omega (arith, nat_abs-le z f.sfits)))
 

@@ -59,7 +59,7 @@ fn signs_right(numbers: &[i64], signed: usize) -> bool
 fn not_above_end(z: i64) -> bool
     ensures { result ≡ leb (nat_abs z) 4294967295 }
 {
-    (-4294967295 <= z) & (z <= 4294967295)
+    z.unsigned_abs() <= u32::MAX as u64
 }
 
 // The number at a place, or the nearest one that its field can hold.
