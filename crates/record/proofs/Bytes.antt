@@ -1,13 +1,17 @@
 -- A number as bytes, read: what the library reads of two, four and eight bytes is the rules' number of them, the first counting most.
+use mathlib.Core.Bool.{Bool, true, false, cond}
 use mathlib.Core.List.{List, [], ◌∷◌}
-use mathlib.Core.Path.{◌≡◌}
-use Prim.Native.Nat.{ℕ, ◌+◌, ◌≤◌}
+use mathlib.Core.Path.{◌≡◌, refl, ap}
+use Prim.Native.Nat.{ℕ, suc, ◌+◌, ◌-◌, ◌≤◌}
 use native.Mathlib.Omega.{arith}
+use lib.Dec.{ltb}
+use lib.IntN.{pos, negsuc}
 use lib.ListN.{length, get_or, take, drop, length-drop}
 use lib.Seq.{drop-cons, length-take-le}
 use mir.Syntax.{w16, w32, w64}
+use mir.Val.{sel, to_z}
 use Rattle.std.specs.Int.{from_be_bytes}
-use Rattle.rules.specs.Record.{number_onto}
+use Rattle.rules.specs.Record.{number_onto, signed}
 
 -- so many bytes from a place on, where they stand, are so many
 pub there : (n : ℕ) (s : List ℕ) (p : ℕ) → p + n ≤ length s → length (take n (drop p s)) ≡ n
@@ -45,3 +49,16 @@ eight_bytes (a ∷ b ∷ c ∷ d ∷ f ∷ []) e = absurd (omega arith)
 eight_bytes (a ∷ b ∷ c ∷ d ∷ f ∷ g ∷ []) e = absurd (omega arith)
 eight_bytes (a ∷ b ∷ c ∷ d ∷ f ∷ g ∷ h ∷ []) e = absurd (omega arith)
 eight_bytes (a ∷ b ∷ c ∷ d ∷ f ∷ g ∷ h ∷ i ∷ j ∷ l) e = absurd (omega arith)
+
+-- "two's complement", as the library reads it and as the rules do
+alike : (t : Bool) (n : ℕ) {a b : ℕ} → a ≡ b → sel t (pos n) (negsuc a) ≡ cond t (pos n) (negsuc b)
+alike true n e = refl
+alike false n e = ap negsuc e
+
+pub signed_4 : (n : ℕ) → to_z w32 n ≡ signed 4 n
+unfolding signed
+signed_4 n = let e : 4294967296 - suc n ≡ 4294967295 - n = omega arith in alike (ltb n 2147483648) n e
+
+pub signed_8 : (n : ℕ) → to_z w64 n ≡ signed 8 n
+unfolding signed
+signed_8 n = let e : 18446744073709551616 - suc n ≡ 18446744073709551615 - n = omega arith in alike (ltb n 9223372036854775808) n e

@@ -1,5 +1,4 @@
 pub mod Bytes
-pub mod Complement
 pub mod BodyShort
 pub mod EveryEntry
 pub mod Decoding

@@ -1,7 +1,6 @@
 // The fields of a record as bytes, read (01 "The month file"): "Numbers are big-endian; net supply and price are two's complement."
 ghost use Rattle.std.specs.Prelude.{◌≡◌, ◌+◌, ◌≤◌, length, take, drop};
-ghost use Rattle.record.specs.Fields.{complemented};
-ghost use Rattle.rules.specs.Record.{number_onto};
+ghost use Rattle.rules.specs.Record.{number_onto, signed};
 
 // The bytes of a field, from a place on.
 fn bytes_at<const N: usize>(s: &[u8], at: usize) -> [u8; N]
@@ -40,13 +39,17 @@ pub fn u64_at(s: &[u8], at: usize) -> u64
     u64::from_be_bytes(bytes_at(s, at))
 }
 
-// Two's complement, for the width whose largest number is `top`: the upper half stands for the negative numbers.
-pub fn signed(n: u64, top: u64) -> i64
-    requires { n ≤ top }
-    ensures { result ≡ complemented top n }
+// The same in two's complement, in four bytes or eight.
+pub fn i32_at(s: &[u8], at: usize) -> i32
+    requires { at + 4 ≤ length s.now }
+    ensures { result ≡ signed 4 (number_onto 0 (take 4 (drop at s.now))) }
 {
-    if n <= top / 2 {
-        return n as i64;
-    }
-    -1 - ((top - n) as i64)
+    i32::from_be_bytes(bytes_at(s, at))
+}
+
+pub fn i64_at(s: &[u8], at: usize) -> i64
+    requires { at + 8 ≤ length s.now }
+    ensures { result ≡ signed 8 (number_onto 0 (take 8 (drop at s.now))) }
+{
+    i64::from_be_bytes(bytes_at(s, at))
 }

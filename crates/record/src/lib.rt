@@ -90,11 +90,6 @@ pub const MOST_HOURS: u16 = limits::MOST_HOURS as u16;
 
 pub const MOST_PARTIES: u8 = limits::MOST_PARTIES as u8;
 
-// The largest numbers of 4 and of 8 bytes, by which two's complement is read and written.
-pub const TOP_4: u64 = 4294967295;
-
-pub const TOP_8: u64 = 18446744073709551615;
-
 // "The body lengths, by kind, are these", and 0 for an unknown kind: reader and writer have them from one table.
 pub fn body_length(kind: u8) -> usize
     ensures { BodyLengthPromised kind result }
@@ -124,7 +119,7 @@ pub fn flows_in(part: &[u8]) -> Flows
 {
     Flows {
         status: fields::u8_at(part, 3),
-        net_wh: fields::signed(fields::u64_at(part, 4), TOP_8),
+        net_wh: fields::i64_at(part, 4),
         production_wh: fields::u64_at(part, 12),
         hourly_wh: fields::u64_at(part, 20),
         flex_wh: fields::u64_at(part, 28),
@@ -174,7 +169,7 @@ pub fn price_in(part: &[u8]) -> i64
     requires { 7 ≤ length part.now }
     ensures { result ≡ signed 4 (number_onto 0 (take 4 (drop 3 part.now))) }
 {
-    fields::signed(fields::u32_at(part, 3) as u64, TOP_4)
+    fields::i32_at(part, 3) as i64
 }
 
 // A party's load share: in a 02 record after its GLN, in a 12 record after its BRP's.

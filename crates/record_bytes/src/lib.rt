@@ -12,7 +12,7 @@ ghost use Rattle.record_bytes.specs.EachKind.{hour_bytes, party_with, reading_ov
 ghost use Rattle.rules.specs.Limits.{gln_digits};
 ghost use Rattle.rules.specs.Record.{heading, own_brp, named_brp, party, this_month, many_months, reading, price, end, record_bytes};
 
-use record::{Flows, Heading, Reading, TOP_4, TOP_8, kind};
+use record::{Flows, Heading, Reading, kind};
 
 // The kinds as the numbers that are written.
 const HEADING: u64 = kind::HEADING as u64;
@@ -28,6 +28,11 @@ const END: u64 = kind::END as u64;
 const LONG_READING: u64 = kind::LONG_READING as u64;
 
 const BRP_PARTY: u64 = kind::BRP_PARTY as u64;
+
+// The largest numbers of 4 and of 8 bytes, by which two's complement is written.
+const TOP_4: u64 = 4294967295;
+
+const TOP_8: u64 = 18446744073709551615;
 
 // A heading, and so each kind below: the kind, then the fields.
 pub fn put_heading(h: Heading, out: &mut [u8])
