@@ -187,7 +187,7 @@ module _ (file : List ℕ) (s : Sections) where
     its_kind : (over : R.Over) → R.kind_at (drop place file) ≡ R.reading_kind_of over
         → (R.kind_at (drop place file) ≡ R.reading_kind) ⊎ (R.kind_at (drop place file) ≡ R.long_reading_kind)
     its_kind R.this_month e = inl e
-    its_kind (R.many_months before whole) e = inr e
+    its_kind (R.many_months _ _) e = inr e
 
     -- what stands at its place is the reading, whole
     pub reading_asked : ReadingAsked file place
