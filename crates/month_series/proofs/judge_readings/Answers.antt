@@ -5,7 +5,7 @@ use Rattle.file_sections.proofs.AcceptedFile.{readings_are}
 use Rattle.answer.specs.Said.{said}
 use Rattle.answer.proofs.Checks.{handed}
 use Rattle.file_fields.specs.Fields.{ReadingPlaced}
-use Rattle.file_fields.proofs.Readers.{few_readings, reading_asked, next_place, next_within}
+use Rattle.file_fields.proofs.Readers.{reading_asked, next_place, next_within}
 use Rattle.month_series.proofs.OneReading.{Read, in_file_lem, ends_stand, end_not_less, judged_is, none_before, one_further}
 use Rattle.rules.specs.Month.{month_of, reading_verdict}
 use Rattle.rules.specs.Words.{at}
