@@ -1,5 +1,4 @@
 -- `month_prepare::prepare` meets its contract: the places are enough for every month, and what was lent stands first in them. Assumes nothing.
-use Prim.Native.Nat.{suc}
 use native.Mathlib.Omega.{arith}
 use Rattle.rules.specs.Limits.{most_hours}
 use Rattle.answer.proofs.Checks.{handed}
@@ -15,9 +14,6 @@ slice_bounds-refixed_wh-end c = omega (arith, so_many most_hours c.hour_places-r
 
 pub slice_bounds-curve-end : goal.slice_bounds-curve-end
 slice_bounds-curve-end c = omega (arith, so_many most_hours c.hour_places-curve.ensures, few_hours _ _ c.requires)
-
-pub slice_bounds-beginnings-end : goal.slice_bounds-beginnings-end
-slice_bounds-beginnings-end c = omega (arith, so_many (suc most_hours) c.beginning_places-beginnings.ensures, few_hours _ _ c.requires)
 
 pub make-requires : goal.make-requires
 make-requires c =

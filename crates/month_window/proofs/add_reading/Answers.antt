@@ -10,9 +10,6 @@ weight_between-own-requires c = ordered c.requires (omega arith) (omega arith)
 pub weight_between-skipped-requires : goal.weight_between-skipped-requires
 weight_between-skipped-requires c = ordered c.requires (omega arith) (omega arith)
 
-pub offset_bounds-out-low : goal.offset_bounds-out-low
-offset_bounds-out-low c = omega (arith, c.slot-low.ensures, c.requires.places, c.if-begin-end.true, c.min-end.ensures)
-
 pub add-requires : goal.add-requires
 add-requires c =
     let both = run_asked c.requires c.max-begin.ensures c.min-end.ensures c.if-begin-end.true c.weight_between-own.ensures c.weight_between-skipped.ensures
