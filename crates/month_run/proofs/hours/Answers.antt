@@ -11,17 +11,5 @@ hours_accepted-requires c = is_read Optional _ c.read.ensures c.in_ok-s.was
 pub returns-in_err-s : goal.returns-in_err-s
 returns-in_err-s c = refused_file _ _ _ _ _ _ _ _ (handed c.from_residual.ensures) (not_read Optional c.args.setting _ c.read.ensures c.in_err-s.was)
 
-pub shape_of-distributed_wh : goal.shape_of-distributed_wh
-shape_of-distributed_wh c = c.distributed_wh-1.given
-
-pub shape_of-periodised_wh : goal.shape_of-periodised_wh
-shape_of-periodised_wh c = c.periodised_wh-1.given
-
-pub shape_of-differences_wh : goal.shape_of-differences_wh
-shape_of-differences_wh c = c.differences_wh-1.given
-
-pub shape_of-losses_wh : goal.shape_of-losses_wh
-shape_of-losses_wh c = c.losses_wh-1.given
-
 pub returns : goal.returns
 returns c = c.hours_accepted.ensures

@@ -38,21 +38,6 @@ pass_made-requires c = record {
   sums_lent = sums_lent c.requires;
 }
 
-pub shape_of-fixed_wh : goal.shape_of-fixed_wh
-shape_of-fixed_wh c = c.fixed_wh-1.given
-
-pub shape_of-refixed_wh : goal.shape_of-refixed_wh
-shape_of-refixed_wh c = c.refixed_wh-1.given
-
-pub shape_of-curve : goal.shape_of-curve
-shape_of-curve c = c.curve-1.given
-
-pub shape_of-distributed_wh : goal.shape_of-distributed_wh
-shape_of-distributed_wh c = c.distributed_wh-1.given
-
-pub shape_of-periodised_wh : goal.shape_of-periodised_wh
-shape_of-periodised_wh c = c.periodised_wh-1.given
-
 pub returns : goal.returns
 returns c =
     c.pass_made.ensures.under _ (none_refused c.make.ensures c.in_ok-made.was)

@@ -15,12 +15,6 @@ pass_hours-requires c =
       sums_lent = c.requires.sums_lent;
     }
 
-pub shape_of-distributed_wh : goal.shape_of-distributed_wh
-shape_of-distributed_wh c = c.distributed_wh-1.given
-
-pub shape_of-periodised_wh : goal.shape_of-periodised_wh
-shape_of-periodised_wh c = c.periodised_wh-1.given
-
 pub returns-in_err-distances : goal.returns-in_err-distances
 returns-in_err-distances c = hour_refused c.pass_hours.ensures.passed c.in_err-distances.was (handed c.from_residual.ensures)
 
