@@ -1,5 +1,4 @@
 -- `month_run::run_hours` meets its contract: of the hours that the walk has come past those of the run are written. Assumes nothing.
-use mathlib.Core.Path.{sym, ◌∙◌}
 use native.Mathlib.Omega.{arith}
 use Rattle.month_run.proofs.Going.{goes, residual_here_lem, few_here, in_run, running_here, step_asked, one_on, hour_asked, goes_on, ends}
 use Rattle.month_walk.proofs.Bounds.{few_hours}
@@ -40,21 +39,6 @@ loop-walk-smaller c = omega (arith, one_on c.requires.run_known c.requires.run_l
 
 pub loop-walk-preserved : goal.loop-walk-preserved
 loop-walk-preserved c = goes_on c.requires.run_known c.requires.run_lent.inside c.loop-walk.invariant (omega arith) c.step.ensures c.unwrap-walk.ensures c.run_hour.ensures
-
-pub shape_of-window : goal.shape_of-window
-shape_of-window c = c.loop-walk.invariant.walked.holds.is.size ∙ sym c.requires.window_len
-
-pub shape_of-distributed_wh : goal.shape_of-distributed_wh
-shape_of-distributed_wh c = c.loop-walk.invariant.running.distributed.size ∙ sym c.requires.run_lent.distributed_size
-
-pub shape_of-periodised_wh : goal.shape_of-periodised_wh
-shape_of-periodised_wh c = c.loop-walk.invariant.running.periodised.size ∙ sym c.requires.run_lent.periodised_size
-
-pub shape_of-differences_wh : goal.shape_of-differences_wh
-shape_of-differences_wh c = c.loop-walk.invariant.running.differences.size ∙ sym c.requires.run_lent.differences_size
-
-pub shape_of-losses_wh : goal.shape_of-losses_wh
-shape_of-losses_wh c = c.loop-walk.invariant.running.losses.size
 
 pub returns : goal.returns
 returns c = record { run = ends c.requires.run_known c.loop-walk.invariant (omega arith); window = walk_window c.loop-walk.invariant.walked (omega (arith, c.requires.run_lent.some)) }

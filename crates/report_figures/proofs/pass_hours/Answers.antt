@@ -1,5 +1,4 @@
 -- `report_figures::pass_hours` meets its contract: the hours that the walk has come past are passed. Assumes nothing.
-use mathlib.Core.Path.{sym, ◌∙◌}
 use native.Mathlib.Omega.{arith}
 use Rattle.answer.proofs.Checks.{handed}
 use Rattle.month_walk.proofs.Walking.{some_hours, walk_window}
@@ -11,15 +10,6 @@ loop-walk-init c = rw (c.none-distances.ensures, c.begin-walk.ensures) (goes c.r
 
 pub step-requires : goal.step-requires
 step-requires c = record { month_known = c.requires.month_known; step_asked = step_asked c.requires.month_known c.loop-walk.invariant (omega arith) }
-
-pub shape_of-window-in_err-walk : goal.shape_of-window-in_err-walk
-shape_of-window-in_err-walk c = c.window-1.given ∙ c.loop-walk.invariant.walked.holds.is.size ∙ sym c.requires.window_len
-
-pub shape_of-distributed_wh-in_err-walk : goal.shape_of-distributed_wh-in_err-walk
-shape_of-distributed_wh-in_err-walk c = c.loop-walk.invariant.passed.distributed.size ∙ sym c.requires.sums_lent.distributed_size
-
-pub shape_of-periodised_wh-in_err-walk : goal.shape_of-periodised_wh-in_err-walk
-shape_of-periodised_wh-in_err-walk c = c.loop-walk.invariant.passed.periodised.size ∙ sym c.requires.sums_lent.periodised_size
 
 pub returns-in_err-walk : goal.returns-in_err-walk
 returns-in_err-walk c =
@@ -33,15 +23,6 @@ loop-walk-smaller c = omega (arith, (c.step.ensures.on _ c.in_ok-walk.was).one_o
 
 pub loop-walk-preserved : goal.loop-walk-preserved
 loop-walk-preserved c = goes_on c.requires.month_known c.loop-walk.invariant (omega arith) c.step.ensures c.in_ok-walk.was c.pass_hour-distances.ensures
-
-pub shape_of-window : goal.shape_of-window
-shape_of-window c = c.loop-walk.invariant.walked.holds.is.size ∙ sym c.requires.window_len
-
-pub shape_of-distributed_wh : goal.shape_of-distributed_wh
-shape_of-distributed_wh c = c.loop-walk.invariant.passed.distributed.size ∙ sym c.requires.sums_lent.distributed_size
-
-pub shape_of-periodised_wh : goal.shape_of-periodised_wh
-shape_of-periodised_wh c = c.loop-walk.invariant.passed.periodised.size ∙ sym c.requires.sums_lent.periodised_size
 
 pub returns : goal.returns
 returns c = record { passed = ends c.requires.month_known c.loop-walk.invariant (omega arith); window = walk_window c.loop-walk.invariant.walked (omega (arith, some_hours c.requires.month_known)) }
