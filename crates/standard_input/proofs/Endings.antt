@@ -51,16 +51,16 @@ known_written report Failed known old new was_read read same writes = absurd (wa
 
 -- a text that is the report of every input that the reading can have had, printed, is that report written
 pub text_written :
-    (report : List ℕ → List ℕ) {ending : Ending} {bytes text : List ℕ} {old new : Option (List ℕ)}
+    (report : List ℕ → List ℕ) (ending : Ending) (bytes text : List ℕ) (old new : Option (List ℕ))
     → TextOf report ending bytes text
     → Appends old new text
     → Writes report ending bytes old new
-text_written report is printed input possible = rw (is input possible) at printed
+text_written report ending bytes text old new is printed input possible = rw (is input possible) at printed
 
 -- and so the program has answered whatever the input was
 pub answered_by :
-    (report : List ℕ → List ℕ) {ending : Ending} {bytes : List ℕ} {old new : Option (List ℕ)}
+    (report : List ℕ → List ℕ) (ending : Ending) (bytes : List ℕ) (old new : Option (List ℕ))
     → FullyRead ending bytes
     → Writes report ending bytes old new
     → Answered report old new
-answered_by report read written = record { ending = _; bytes = _; read = read; written = written }
+answered_by report ending bytes old new read written = record { ending = ending; bytes = bytes; read = read; written = written }

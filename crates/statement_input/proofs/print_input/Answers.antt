@@ -1,4 +1,7 @@
 -- `statement_input::print_input` meets its contract: what is printed of an input is its statement. Assumes nothing.
+use mathlib.Core.Path.{◌≡◌}
+use Prim.Native.Nat.{◌-◌}
+use native.Mathlib.Omega.{arith}
 use borrow.Author.Rules.{rules}
 use Rattle.std.proofs.lemmas.Result.{on_ok_weaker}
 use Rattle.rules.specs.Statement.{statement_per}
@@ -15,7 +18,8 @@ slice_bounds-print-end g c =
 pub returns : goal.returns
 returns g c =
     let text = (input_printed (per_of c.args.per) (asked c.args.setting) _ c.args.ending c.requires c.input_text-n.ensures).1 in
+    let all : c.input_text-n.result - 0 ≡ c.input_text-n.result = omega arith in
     record {
-      written = on_ok_weaker _ (text_written (statement_per (per_of c.args.per) (asked c.args.setting)) text) c.print.ensures.written;
+      written = on_ok_weaker _ (text_written (statement_per (per_of c.args.per) (asked c.args.setting)) _ _ _ _ _ text) (rw all at c.print.ensures.written);
       unwritten = c.print.ensures.unwritten;
     }
