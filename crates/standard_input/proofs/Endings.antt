@@ -60,7 +60,8 @@ text_written report ending bytes text old new is printed input possible = rw (is
 -- and so the program has answered whatever the input was
 pub answered_by :
     (report : List ℕ → List ℕ) (ending : Ending) (bytes : List ℕ) (old new : Option (List ℕ))
+    → (ending ≡ Failed → ⊥)
     → FullyRead ending bytes
     → Writes report ending bytes old new
     → Answered report old new
-answered_by report ending bytes old new read written = record { ending = ending; bytes = bytes; read = read; written = written }
+answered_by report ending bytes old new was_read read written = record { ending = ending; bytes = bytes; was_read = was_read; read = read; written = written }

@@ -1,6 +1,6 @@
 -- Reading from a reader whose bytes are known, as those of a slice are: which of them a read gave, and which input a whole reading had. Of a file or a pipe nothing is
 -- known (`None`), and nothing is said.
-use Rattle.std.specs.Prelude.{List, ℕ, ◌<◌, length, take, IfSome, Option}
+use Rattle.std.specs.Prelude.{List, ℕ, ◌≡◌, ◌<◌, length, take, IfSome, Option}
 use Rattle.std.specs.Io.KnownBytes.{Appends, Consumes, IsAtEnd}
 use Rattle.standard_input.specs.Reading.{InputOf, FullyRead}
 use Rattle.standard_input.specs.declared.Ending.{Ending}
@@ -30,9 +30,10 @@ InputRead Failed known bytes = Unit
 abbrev pub Writes : (List ℕ → List ℕ) → Ending → List ℕ → Option (List ℕ) → Option (List ℕ) → Type 0
 Writes report ending bytes old new = (input : List ℕ) → InputOf ending bytes input → Appends old new (report input)
 
--- and of whatever the input was: bytes that were read of it, how the reading ended, and the report of that
+-- and of whatever the input was: bytes that were read of it, how the reading ended, which is no failure (of one nothing could be said), and the report of that
 pub record Answered (report : List ℕ → List ℕ) (old new : Option (List ℕ)) : Type 0 where
   pub ending : Ending
   pub bytes : List ℕ
+  pub was_read : ending ≡ Failed → ⊥
   pub read : FullyRead ending bytes
   pub written : Writes report ending bytes old new

@@ -13,6 +13,6 @@ returns-in_default g c = record {
       on_ok_weaker _ (known_written (statement_per (per_of c.args.per) (asked c.args.setting)) _ _ _ _ c.in_default.not-Failed c.read_month-input.ensures.known c.bytes_read.ensures.bytes)
       c.print_input.ensures.written;
   answered =
-      on_ok_weaker _ (answered_by (statement_per (per_of c.args.per) (asked c.args.setting)) _ _ _ _ c.bytes_read.ensures.full) c.print_input.ensures.written;
+      on_ok_weaker _ (answered_by (statement_per (per_of c.args.per) (asked c.args.setting)) _ _ _ _ c.in_default.not-Failed c.bytes_read.ensures.full) c.print_input.ensures.written;
   unread = λ e. search rules;
 }
