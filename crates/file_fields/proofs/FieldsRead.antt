@@ -1,13 +1,13 @@
 -- What the readers of an accepted file's fields give, in the month that the file is read as: for the crates above.
 use mathlib.Core.Bool.{true}
 use mathlib.Core.List.{List, []}
-use mathlib.Core.Path.{◌≡◌, ◌∙◌, ap}
+use mathlib.Core.Path.{◌≡◌, sym, ◌∙◌, ap}
 use Prim.Native.Nat.{ℕ, ◌<◌}
 use native.Mathlib.Omega.{arith}
 use lib.IntN.{ℤ}
 use lib.ListN.{length}
 use Rattle.std.specs.Option.{unwrap_or}
-use Rattle.std.specs.Prelude.{Option, Some}
+use Rattle.std.specs.Prelude.{Option, Some, None}
 use Rattle.gln.specs.Gln.{gln_answer}
 use Rattle.record.specs.Record.{flows_of}
 use Rattle.record.specs.declared.Flows as CFlows
@@ -72,3 +72,6 @@ module _ (file : List ℕ) (s : Sections) (i : ℕ) (a : PartyAsked file s i) {g
   number_is {tested} e given =
       let same = given ∙ ap (λ (g : Option ℕ). unwrap_or g 0) (e ∙ answered) in
       record { is = λ prices m read. same ∙ ap (digits_onto 0) (is.is prices m read) }
+
+  pub never_invalid : {g : Option ℕ} → g ≡ gln_answer gln → g ≡ None → ⊥
+  never_invalid tested e = let both : None ≡ Some (digits_onto 0 gln) = sym e ∙ tested ∙ answered in let z : ◌≡◌ {A = ℕ} 0 1 = cc in omega arith

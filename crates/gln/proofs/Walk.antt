@@ -3,8 +3,7 @@
 use mathlib.Core.Bool.{Bool, true, false, cond, ◌&&◌}
 use mathlib.Core.List.{List, [], ◌∷◌}
 use mathlib.Core.Path.{◌≡◌, refl, sym, ◌∙◌, ap}
-use Prim.Native.Nat.{ℕ, ◌+◌, ◌-◌, ◌*◌, ◌%◌, ◌^◌, ◌≤◌, ◌<◌, zero-le}
-use native.Mathlib.Numerals.{add-one}
+use Prim.Native.Nat.{ℕ, suc, ◌+◌, ◌-◌, ◌*◌, ◌%◌, ◌^◌, ◌≤◌, ◌<◌, zero-le}
 use native.Mathlib.Nat.{pow-le-pow_right, pow-suc, mul-le-mul}
 use native.Mathlib.Omega.{arith}
 use borrow.Author.Tests.{le-leb, lt-leb, eq-eqb, ne_eqb}
@@ -18,19 +17,28 @@ use Rattle.rules.specs.Limits.{gln_digits}
 use Rattle.rules.specs.Words.{sum, sum_from1, at, within}
 use Rattle.rules.proofs.Sums.{sum_from_1}
 
--- Before the digit at place i, which stands at position 13 - i: the number and the weighted sum of the digits that were passed.
-pub record Walking (l : List ℕ) (number weighted i : ℕ) : Type 0 where
-  pub size : length l ≡ gln_digits
-  pub digits : all_digits (drop i l) ≡ all_digits l
-  pub value : digits_onto number (drop i l) ≡ digits_onto 0 l
-  pub small : number < 10 ^ i
-  pub weighed : weighted + sum_from1 (gln_digits - i) (weighted_digit l) ≡ weighted_sum l
-  pub light : weighted ≤ 27 * i
+-- the byte at a position, and the bytes from it on to the last: the first byte stands at position 13
+abbrev byte_at : List ℕ → ℕ → ℕ
+byte_at l position = get_or l (gln_digits - position) 0
 
-pub walk_start : {l : List ℕ} → length l ≡ gln_digits → Walking l 0 0 0
+abbrev bytes_from : List ℕ → ℕ → List ℕ
+bytes_from l position = drop (gln_digits - position) l
+
+-- Before the digit at a position: the number and the weighted sum of the digits that were passed, which stand at the positions above it.
+pub record Walking (l : List ℕ) (number weighted position : ℕ) : Type 0 where
+  pub bound : position ≤ gln_digits
+  pub size : length l ≡ gln_digits
+  pub digits : all_digits (bytes_from l position) ≡ all_digits l
+  pub value : digits_onto number (bytes_from l position) ≡ digits_onto 0 l
+  pub small : number < 10 ^ (gln_digits - position)
+  pub weighed : weighted + sum_from1 position (weighted_digit l) ≡ weighted_sum l
+  pub light : weighted ≤ 27 * (gln_digits - position)
+
+pub walk_start : {l : List ℕ} → length l ≡ gln_digits → Walking l 0 0 gln_digits
 unfolding weighted_sum
 walk_start {l} e =
     record {
+      bound = omega arith;
       size = e;
       digits = refl;
       value = refl;
@@ -39,37 +47,32 @@ walk_start {l} e =
       light = zero-le;
     }
 
-pub number_fits : {l : List ℕ} {n w i : ℕ} → Walking l n w i → i < length l → n < 10 ^ 12
-number_fits {l} {n} {w} {i} h b =
-    let q : i ≤ 12 = omega (arith, h.size) in
-    let most : 10 ^ i ≤ 10 ^ 12 = pow-le-pow_right {n = 10} (omega arith) q in
+pub number_fits : {l : List ℕ} {n w p : ℕ} → Walking l n w p → 0 < p → n < 10 ^ 12
+number_fits {l} {n} {w} {p} h b =
+    let q : gln_digits - p ≤ 12 = omega arith in
+    let most : 10 ^ (gln_digits - p) ≤ 10 ^ 12 = pow-le-pow_right {n = 10} (omega arith) q in
     omega (arith, h.small)
 
-module _ {l : List ℕ} {n w i : ℕ} (h : Walking l n w i) (b : i < length l) where
-  here : drop i l ≡ get_or l i 0 ∷ drop (i + 1) l
-  here = rw add-one (drop-cons l i 0 b)
+module _ {l : List ℕ} {n w p : ℕ} (h : Walking l n w p) (b : 0 < p) where
+  further : suc (gln_digits - p) ≡ gln_digits - (p - 1)
+  further = omega (arith, h.bound)
 
-  digits_here : within 48 57 (get_or l i 0) && all_digits (drop (i + 1) l) ≡ all_digits l
+  here : bytes_from l p ≡ byte_at l p ∷ bytes_from l (p - 1)
+  here = drop-cons l (gln_digits - p) 0 (omega (arith, h.size)) ∙ ap (λ (k : ℕ). byte_at l p ∷ drop k l) further
+
+  digits_here : within 48 57 (byte_at l p) && all_digits (bytes_from l (p - 1)) ≡ all_digits l
   unfolding all_digits
   digits_here = ap all_digits (sym here) ∙ h.digits
 
-  value_here : digits_onto (n * 10 + (get_or l i 0 - 48)) (drop (i + 1) l) ≡ digits_onto 0 l
+  value_here : digits_onto (n * 10 + (byte_at l p - 48)) (bytes_from l (p - 1)) ≡ digits_onto 0 l
   unfolding digits_onto
   value_here = ap (digits_onto n) (sym here) ∙ h.value
 
-  weighed_here : w + weight_of_position (gln_digits - i) * (get_or l i 0 - 48) + sum_from1 (gln_digits - (i + 1)) (weighted_digit l) ≡ weighted_sum l
+  weighed_here : w + weight_of_position p * (byte_at l p - 48) + sum_from1 (p - 1) (weighted_digit l) ≡ weighted_sum l
   unfolding weighted_digit digit_at_position at
   weighed_here =
-      let p : ℕ = gln_digits - i in
-      let place : length l - p ≡ i = omega (arith, h.size) in
-      let further : p - 1 ≡ gln_digits - (i + 1) = omega arith in
-      omega (
-        arith,
-        h.weighed,
-        sum_from_1 p (weighted_digit l) (omega (arith, h.size)),
-        ap (λ (k : ℕ). sum_from1 k (weighted_digit l)) further,
-        ap (λ (k : ℕ). weight_of_position p * (get_or l k 0 - 48)) place,
-      )
+      let its_own : weighted_digit l p ≡ weight_of_position p * (byte_at l p - 48) = ap (λ (k : ℕ). weight_of_position p * (get_or l (k - p) 0 - 48)) h.size in
+      omega (arith, h.weighed, sum_from_1 p (weighted_digit l) b, its_own)
 
 weight_most : (p : ℕ) → weight_of_position p ≤ 3
 unfolding weight_of_position
@@ -98,17 +101,18 @@ above_digits {x} p = rw (lt-leb x 57 p) (never (leb 48 x))
     never true = refl
     never false = refl
 
-pub walk_next : {l : List ℕ} {n w i v : ℕ} → Walking l n w i → i < length l → 48 ≤ get_or l i 0 → get_or l i 0 ≤ 57 → v ≡ weight_of_position (gln_digits - i)
-    → Walking l (n * 10 + (get_or l i 0 - 48)) (w + v * (get_or l i 0 - 48)) (i + 1)
-walk_next {l} {n} {w} {i} {v} h b low high e =
+pub walk_next : {l : List ℕ} {n w p v : ℕ} → Walking l n w p → 0 < p → 48 ≤ byte_at l p → byte_at l p ≤ 57 → v ≡ weight_of_position p
+    → Walking l (n * 10 + (byte_at l p - 48)) (w + v * (byte_at l p - 48)) (p - 1)
+walk_next {l} {n} {w} {p} {v} h b low high e =
     rw e
     (record {
+      bound = omega (arith, h.bound);
       size = h.size;
-      digits = ap (λ (t : Bool). t && all_digits (drop (i + 1) l)) (sym (digit low high)) ∙ digits_here h b;
+      digits = ap (λ (t : Bool). t && all_digits (bytes_from l (p - 1))) (sym (digit low high)) ∙ digits_here h b;
       value = value_here h b;
-      small = omega (arith, h.small, pow-suc 10 i, ap (λ (k : ℕ). 10 ^ k) (add-one i));
+      small = omega (arith, h.small, pow-suc 10 (gln_digits - p), ap (λ (k : ℕ). 10 ^ k) (further h b));
       weighed = weighed_here h b;
-      light = omega (arith, h.light, weighs_at_most (gln_digits - i) refl high);
+      light = omega (arith, h.light, further h b, weighs_at_most p refl high);
     })
 
 -- Bytes of another length, or with one that is no digit, or with a weighted sum that is no multiple of 10, are no GLN; all others are.
@@ -120,18 +124,18 @@ no_digit : (l : List ℕ) → length l ≡ gln_digits → all_digits l ≡ false
 unfolding gln_answer valid_gln
 no_digit l e d = rw (eq-eqb (length l) gln_digits e, d)
 
-stop : {l : List ℕ} {n w i : ℕ} → Walking l n w i → i < length l → within 48 57 (get_or l i 0) ≡ false → None ≡ gln_answer l
-stop {l} {n} {w} {i} h b e = no_digit l h.size (sym (digits_here h b) ∙ ap (λ (t : Bool). t && all_digits (drop (i + 1) l)) e)
+stop : {l : List ℕ} {n w p : ℕ} → Walking l n w p → 0 < p → within 48 57 (byte_at l p) ≡ false → None ≡ gln_answer l
+stop {l} {n} {w} {p} h b e = no_digit l h.size (sym (digits_here h b) ∙ ap (λ (t : Bool). t && all_digits (bytes_from l (p - 1))) e)
 
-pub stop_below : {l : List ℕ} {n w i : ℕ} → Walking l n w i → i < length l → get_or l i 0 < 48 → None ≡ gln_answer l
+pub stop_below : {l : List ℕ} {n w p : ℕ} → Walking l n w p → 0 < p → byte_at l p < 48 → None ≡ gln_answer l
 stop_below h b low = stop h b (below_digits low)
 
-pub stop_above : {l : List ℕ} {n w i : ℕ} → Walking l n w i → i < length l → 57 < get_or l i 0 → None ≡ gln_answer l
+pub stop_above : {l : List ℕ} {n w p : ℕ} → Walking l n w p → 0 < p → 57 < byte_at l p → None ≡ gln_answer l
 stop_above h b high = stop h b (above_digits high)
 
-module _ {l : List ℕ} {n w i : ℕ} (h : Walking l n w i) (b : length l ≤ i) where
-  nothing_left : drop i l ≡ []
-  nothing_left = drop_of_length-le l b
+module _ {l : List ℕ} {n w p : ℕ} (h : Walking l n w p) (b : p ≡ 0) where
+  nothing_left : bytes_from l p ≡ []
+  nothing_left = let e : length l ≤ gln_digits - p = omega (arith, h.size) in drop_of_length-le l e
 
   all_digits_lem : true ≡ all_digits l
   unfolding all_digits
@@ -139,9 +143,7 @@ module _ {l : List ℕ} {n w i : ℕ} (h : Walking l n w i) (b : length l ≤ i)
 
   all_weighed : w ≡ weighted_sum l
   unfolding sum sum_from1
-  all_weighed =
-      let done : gln_digits - i ≡ 0 = omega (arith, h.size) in
-      omega (arith, ap (λ (k : ℕ). sum_from1 k (weighted_digit l)) done, h.weighed)
+  all_weighed = omega (arith, ap (λ (k : ℕ). w + sum_from1 k (weighted_digit l)) b, h.weighed)
 
   pub end_other : (w % 10 ≡ 0 → ⊥) → None ≡ gln_answer l
   unfolding gln_answer valid_gln

@@ -32,9 +32,8 @@ pub fn check(part: &[u8]) -> Option<u64>
     }
     let mut number: u64 = 0;
     let mut weighted: u64 = 0;
-    for (i, byte) in part.iter().enumerate() {
-        let position = limits::GLN_DIGITS - i;
-        let byte = *byte;
+    for position in (1..limits::GLN_DIGITS + 1).rev() {
+        let byte = part[limits::GLN_DIGITS - position];
         if byte < b'0' {
             return None;
         }

@@ -67,7 +67,7 @@ one_or_none : (b : Bool) → cond b 1 0 ≤ 1
 one_or_none true = omega arith
 one_or_none false = omega arith
 
-one_at_most : (status : ℕ) → estimated_one status ≤ 1
+pub one_at_most : (status : ℕ) → estimated_one status ≤ 1
 one_at_most status = one_or_none (eqb status Limits.estimated)
 
 module _ {series : List Flows} {out : List ℕ} {n t : ℕ} (l : Judging series out n t) (b : t < length series) where

@@ -30,7 +30,8 @@ InputRead Failed known bytes = Unit
 abbrev pub Writes : (List ℕ → List ℕ) → Ending → List ℕ → Option (List ℕ) → Option (List ℕ) → Type 0
 Writes report ending bytes old new = (input : List ℕ) → InputOf ending bytes input → Appends old new (report input)
 
--- and of whatever the input was: bytes that were read of it, how the reading ended, which is no failure (of one nothing could be said), and the report of that
+-- and of whatever the input was: some ending of the reading, which is no failure (of one nothing could be said), some bytes that fit it, and the report of those
+-- bytes. Of a reader whose bytes are not known no clause can say which they are.
 pub record Answered (report : List ℕ → List ℕ) (old new : Option (List ℕ)) : Type 0 where
   pub ending : Ending
   pub bytes : List ℕ

@@ -69,7 +69,7 @@ fn print_input<W: Write>(
 }
 
 // THE STATEMENT PROGRAM, THE PREVIEW PROGRAM AND THE BRP PROGRAM, from a reader and to a writer: of an input that is known, what is written is its statement, and nothing
-// else; of any other, the statement of bytes that were read; and of one that could not be read nothing.
+// else; of any other, the statement of some bytes that fit some ending of the reading; and of one that could not be read nothing.
 pub fn run<R: Read, W: Write>(
     from: &mut R,
     to: &mut W,
