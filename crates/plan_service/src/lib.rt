@@ -88,7 +88,12 @@ pub fn plan(
     ) {
         return Err(Refused(Refusal::WrongLength, 0));
     }
-    let p = plan::plan(e_wh, a, b, parties, hours, curves)?;
-    put_records(p, out_a, out_b, out_before, out_whole);
-    Ok(())
+    // Taken apart by hand: must-fail edits stand at the refusal, told as done, and told with an hour written.
+    match plan::plan(e_wh, a, b, parties, hours, curves) {
+        Ok(p) => {
+            put_records(p, out_a, out_b, out_before, out_whole);
+            Ok(())
+        }
+        Err(refused) => Err(refused),
+    }
 }

@@ -1,5 +1,5 @@
 -- `plan_service::plan` meets its contract: 16 stands before the planner's checks, and the lists have the numbers of its records (`Lent`). Assumes nothing.
-use Rattle.answer.proofs.Checks.{handed}
+use mathlib.Core.Path.{refl}
 use Rattle.plan_service.proofs.Lent.{wrong_lent, plan_refuses, places, all_lent}
 use Rattle.rules.specs.Plan.{month_count}
 use Rattle.plan_service.proofs.plan.Goals as goal
@@ -8,14 +8,14 @@ pub returns-then-not-as_many : goal.returns-then-not-as_many
 unfolding month_count
 returns-then-not-as_many c = wrong_lent _ _ _ _ _ c.as_many.ensures c.if-not-as_many.true-raw
 
-pub returns-in_err-p : goal.returns-in_err-p
+pub returns-in-Err : goal.returns-in-Err
 unfolding month_count
-returns-in_err-p c = plan_refuses _ _ _ _ _ c.as_many.ensures c.if-not-as_many.false-raw c.plan.ensures c.in_err-p.was (handed c.from_residual.ensures)
+returns-in-Err c = plan_refuses _ _ _ _ _ c.as_many.ensures c.if-not-as_many.false-raw c.plan.ensures c.in-Err.is refl
 
 pub put_records-requires : goal.put_records-requires
 unfolding month_count
-put_records-requires c = places _ _ _ _ _ c.as_many.ensures c.if-not-as_many.false-raw c.plan.ensures c.in_ok-p.was
+put_records-requires c = places _ _ _ _ _ c.as_many.ensures c.if-not-as_many.false-raw c.plan.ensures c.in-Ok.is
 
-pub returns : goal.returns
+pub returns-in-Ok : goal.returns-in-Ok
 unfolding month_count
-returns c = all_lent _ _ _ _ _ c.as_many.ensures c.if-not-as_many.false-raw c.plan.ensures c.in_ok-p.was c.put_records.ensures
+returns-in-Ok c = all_lent _ _ _ _ _ c.as_many.ensures c.if-not-as_many.false-raw c.plan.ensures c.in-Ok.is c.put_records.ensures
