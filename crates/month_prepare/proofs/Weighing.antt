@@ -1,14 +1,13 @@
 -- 17 by the setting; "Then 6": W by the shares that were read, and the carries that are started with them.
 use mathlib.Core.List.{List}
-use mathlib.Core.Path.{◌≡◌, sym, ◌∙◌, ap, subst}
+use mathlib.Core.Path.{◌≡◌, sym, ◌∙◌, ap, ap₂, subst}
 use Prim.Native.Nat.{ℕ, ◌-◌, ◌≤◌, ◌<◌}
 use native.Mathlib.Omega.{arith}
 use lib.ListN.{length, take}
 use borrow.Rule.Slice.PartMut.{mid_of, put_mid}
 use Rattle.std.specs.Prelude.{Result, Ok, Err, ⊤}
-use Rattle.answer.specs.Said.{said, verdict_of}
+use Rattle.answer.specs.Said.{said}
 use Rattle.answer.specs.declared.Refused.{Refused}
-use Rattle.answer.proofs.Checks.{refused_stops, done_passes, accepted_by}
 use Rattle.distribute.specs.Good.{Startable, Started}
 use Rattle.distribute.specs.declared.Carries.{Carries}
 use Rattle.distribute.specs.Shares.{w_verdict, FewShares}
@@ -24,28 +23,22 @@ use Rattle.rules.specs.Flows.{W}
 use Rattle.rules.specs.Limits.{greatest_w, greatest_share, most_parties}
 use Rattle.rules.specs.Month.{month_of, party_at, share_of, month_w, refixed_verdict}
 use Rattle.rules.specs.MonthFile.{MonthFile, P}
-use Rattle.rules.specs.Refusals.{w_out_of_range, unless}
+use Rattle.rules.specs.Refusals.{Verdict, and_then, w_out_of_range, unless}
 use Rattle.rules.specs.Words.{sum, at, within, figures}
 use Rattle.rules.proofs.Loops.{figures_length, figures_at}
-use Rattle.rules.proofs.Refusals.{unless_exactly}
+use Rattle.rules.proofs.Refusals.{both_accept, unless_exactly}
 use Rattle.rules.proofs.Sums.{sum_cong}
 use Rattle.rules.proofs.Whole.{every_at, PartyRight, within_is}
 
--- the setting decides first
-module _
-    (file : List ℕ) (s : Sections) (ok : Accepted file s) (setting : Setting) (by-setting : Result ⊤ Refused)
-    (asks : said by-setting ≡ refixed_verdict (asked setting) s.refixed) where
-  by_setting_is : said by-setting ≡ refixed_verdict (asked setting) (length (month_of file).refixed)
-  by_setting_is = asks ∙ ap (refixed_verdict (asked setting)) (refixed_are file s ok)
+-- the first refusal of two
+module _ {one : Result ⊤ Refused} (other : Verdict) where
+  pub first_refuses : {x : Refused} → one ≡ Err x → {r : Result ⊤ Refused} → r ≡ Err x → said r ≡ and_then (said one) other
+  unfolding and_then
+  first_refuses e on = rw (e, on)
 
-  -- it is refused, or W is, and there are no carries
-  weighing_refused : {x : Refused} → verdict_of x ≡ weighed_verdict (asked setting) (month_of file) → {r : Result Carries Refused} → r ≡ Err x → WeighedIs setting (month_of file) r
-  weighing_refused v on = record { verdict = ap said on ∙ v; started = λ c f. absurd (no_figures on f) }
-
-  pub setting_refused : {x : Refused} → by-setting ≡ Err x → {r : Result Carries Refused} → r ≡ Err x → WeighedIs setting (month_of file) r
-  unfolding weighed_verdict
-  setting_refused e on =
-      weighing_refused (sym (ap said e) ∙ refused_stops by_setting_is e (unless (within 1 greatest_w (month_w (month_of file))) w_out_of_range 0)) on
+  pub other_decides : one ≡ Ok tt → other ≡ and_then (said one) other
+  unfolding and_then
+  other_decides e = rw e
 
 -- the shares that were read into the first of these places, read from there again
 module _
@@ -93,29 +86,34 @@ module _ (file : List ℕ) (s : Sections) (ok : Accepted file s) {shares : List 
   unfolding w_verdict
   weighed_is = ap (λ (w : ℕ). unless (within 1 greatest_w w) w_out_of_range 0) w_is
 
-  module _ (by-w : Result ⊤ Refused) (is : said by-w ≡ w_verdict shares) where
-    module _
-        (setting : Setting) (by-setting : Result ⊤ Refused)
-        (asks : said by-setting ≡ refixed_verdict (asked setting) s.refixed) (passed : by-setting ≡ Ok tt) where
-      decides : said by-w ≡ weighed_verdict (asked setting) m
-      unfolding weighed_verdict
-      decides = is ∙ weighed_is ∙ sym (done_passes (by_setting_is file s ok setting by-setting asks) passed (unless (within 1 greatest_w (month_w m)) w_out_of_range 0))
+  module _
+      (setting : Setting) {by-setting by-w : Verdict} (answer : Result ⊤ Refused)
+      (asks : by-setting ≡ refixed_verdict (asked setting) s.refixed)
+      (is : by-w ≡ w_verdict shares)
+      (tells : said answer ≡ and_then by-setting by-w) where
+    verdict_is : said answer ≡ weighed_verdict (asked setting) m
+    unfolding weighed_verdict
+    verdict_is = tells ∙ ap₂ and_then (asks ∙ ap (refixed_verdict (asked setting)) (refixed_are file s ok)) (is ∙ weighed_is)
 
-      pub w_refused : {x : Refused} → by-w ≡ Err x → {r : Result Carries Refused} → r ≡ Err x → WeighedIs setting m r
-      w_refused e on = weighing_refused file s ok setting by-setting asks (sym (ap said e) ∙ decides) on
+    -- the setting or W is refused, and there are no carries
+    pub w_refused : {x : Refused} → answer ≡ Err x → {r : Result Carries Refused} → r ≡ Err x → WeighedIs setting m r
+    w_refused e on = record { verdict = ap said on ∙ sym (ap said e) ∙ verdict_is; started = λ c f. absurd (no_figures on f) }
 
-      pub w_started : by-w ≡ Ok tt → {c : Carries} → Started shares c → WeighedIs setting m (Ok c)
-      w_started done {c} started =
+    module _ (done : answer ≡ Ok tt) where
+      month_w_fits : (1 ≤ month_w m) × (month_w m ≤ greatest_w)
+      month_w_fits =
+          within_is 1 greatest_w (month_w m) ((unless_exactly _ _ _).0 (sym weighed_is ∙ sym is ∙ (both_accept by-setting by-w (sym tells ∙ ap said done)).1))
+
+      -- the shares have a W that carries can be started with
+      pub startable : Startable shares
+      startable =
+          let some : 0 < W (length shares) (at shares) = omega (arith, w_is, month_w_fits.0) in
+          let w_fits : W (length shares) (at shares) ≤ greatest_w = omega (arith, w_is, month_w_fits.1) in
+          record { few = omega (arith, shares_many, few); some = some; w_fits = w_fits }
+
+      pub w_started : {c : Carries} → Started shares c → WeighedIs setting m (Ok c)
+      w_started {c} started =
           record {
-            verdict = sym (ap said done) ∙ decides;
+            verdict = sym (ap said done) ∙ verdict_is;
             started = λ d f. subst (λ (x : Carries). Started (figures (P m) (share_of m)) x) (given_same f) (subst (λ (l : List ℕ). Started l c) are started);
           }
-
-    -- the shares have a W that carries can be started with
-    pub startable : by-w ≡ Ok tt → Startable shares
-    startable done =
-        let in_range : (1 ≤ month_w m) × (month_w m ≤ greatest_w) =
-        within_is 1 greatest_w (month_w m) ((unless_exactly _ _ _).0 (accepted_by (is ∙ weighed_is) done)) in
-        let some : 0 < W (length shares) (at shares) = omega (arith, w_is, in_range.0) in
-        let w_fits : W (length shares) (at shares) ≤ greatest_w = omega (arith, w_is, in_range.1) in
-        record { few = omega (arith, shares_many, few); some = some; w_fits = w_fits }
